@@ -1,0 +1,174 @@
+// Refusals 8 to 11: places, turns, rim and circles (01, "Where a call can be turned down").
+use geometry::Place;
+ghost use mathlib.Core.Path.{_≡_};
+ghost use Prim.Native.Nat.{_<_};
+ghost use lib.ListN.{length};
+ghost use Rattle.whole.specs.First.{some};
+ghost use Rattle.geometry.specs.Plane.{OnGrid};
+ghost use Rattle.chart.specs.Tables.{rows, placeOf};
+ghost use Rattle.chart.specs.Chart.{chartOf, InRange};
+ghost use Rattle.delaunay.specs.Delaunay.{Gridded, samePlace, standsAt, liesLeft, liesInside, sharesPlace, notLeft, overhung, crowded};
+
+// Whether two places are one.
+fn is_same_place(p: Place, q: Place) -> bool
+    ensures { λ r. ⌜ r ≡ samePlace p q ⌝ }
+{
+    if p.x != q.x {
+        return false;
+    }
+    p.y == q.y
+}
+
+// Whether a vertex of a number below v is at the place p.
+fn some_below_at(vertices: &[i64], v: usize, p: Place) -> bool
+    requires { ⌜ v < rows (now vertices) ⌝ }
+    ensures { λ r. ⌜ r ≡ some (standsAt (placeOf (now (vertices .entry))) p) v ⌝ }
+{
+    let mut w = 0;
+    while w < v {
+        if is_same_place(chart::place_of(vertices, w), p) {
+            return true;
+        }
+        w += 1;
+    }
+    false
+}
+
+// 8: two vertices at one place.
+pub fn some_share_place(vertices: &[i64], edges: &[usize], faces: &[usize]) -> bool
+    requires { ⌜ InRange (chartOf (now vertices) (now edges) (now faces)) ⌝ }
+    ensures { λ r. ⌜ r ≡ some (sharesPlace (chartOf (now (vertices .entry)) (now (edges .entry)) (now (faces .entry)))) (rows (now (vertices .entry))) ⌝ }
+{
+    let n = vertices.len() / 4;
+    let mut v = 0;
+    while v < n {
+        if some_below_at(vertices, v, chart::place_of(vertices, v)) {
+            return true;
+        }
+        v += 1;
+    }
+    false
+}
+
+// Whether some vertex is strictly left of a to b.
+fn some_left(vertices: &[i64], a: Place, b: Place) -> bool
+    requires { ⌜ Gridded (now vertices) ⌝ ∗ ⌜ OnGrid a ⌝ ∗ ⌜ OnGrid b ⌝ }
+    ensures { λ r. ⌜ r ≡ some (liesLeft (placeOf (now (vertices .entry))) a b) (rows (now (vertices .entry))) ⌝ }
+{
+    let n = vertices.len() / 4;
+    let mut v = 0;
+    while v < n {
+        if geometry::is_on_left_side(a, b, chart::place_of(vertices, v)) {
+            return true;
+        }
+        v += 1;
+    }
+    false
+}
+
+// Whether some vertex is strictly inside the circle of the left-turning a, b, c.
+fn some_inside(vertices: &[i64], a: Place, b: Place, c: Place) -> bool
+    requires { ⌜ Gridded (now vertices) ⌝ ∗ ⌜ OnGrid a ⌝ ∗ ⌜ OnGrid b ⌝ ∗ ⌜ OnGrid c ⌝ }
+    ensures { λ r. ⌜ r ≡ some (liesInside (placeOf (now (vertices .entry))) a b c) (rows (now (vertices .entry))) ⌝ }
+{
+    let n = vertices.len() / 4;
+    let mut v = 0;
+    while v < n {
+        if geometry::contained_in_circumference(a, b, c, chart::place_of(vertices, v)) {
+            return true;
+        }
+        v += 1;
+    }
+    false
+}
+
+// Whether an inner face's corners don't turn strictly left.
+fn is_not_left(vertices: &[i64], edges: &[usize], faces: &[usize], f: usize) -> bool
+    requires { ⌜ InRange (chartOf (now vertices) (now edges) (now faces)) ⌝ ∗ ⌜ f < length (now faces) ⌝ }
+    ensures { λ r. ⌜ r ≡ notLeft (chartOf (now (vertices .entry)) (now (edges .entry)) (now (faces .entry))) f ⌝ }
+{
+    if f == 0 {
+        return false;
+    }
+    let h = chart::adjacent_of(faces, f);
+    let a = chart::from_of(vertices, edges, faces, chart::prev_of(edges, h));
+    let b = chart::from_of(vertices, edges, faces, h);
+    let c = chart::from_of(vertices, edges, faces, chart::next_of(edges, h));
+    !geometry::is_on_left_side(a, b, c)
+}
+
+// Whether a vertex is strictly left of the outer half-edge h.
+fn is_overhung(vertices: &[i64], edges: &[usize], faces: &[usize], h: usize) -> bool
+    requires { ⌜ InRange (chartOf (now vertices) (now edges) (now faces)) ⌝ ∗ ⌜ h < rows (now edges) ⌝ }
+    ensures { λ r. ⌜ r ≡ overhung (chartOf (now (vertices .entry)) (now (edges .entry)) (now (faces .entry))) h ⌝ }
+{
+    if chart::face_of(edges, h) != 0 {
+        return false;
+    }
+    let a = chart::from_of(vertices, edges, faces, h);
+    let b = chart::from_of(vertices, edges, faces, chart::partner_of(h));
+    some_left(vertices, a, b)
+}
+
+// Whether a vertex is strictly inside the circle of the inner face f.
+fn is_crowded(vertices: &[i64], edges: &[usize], faces: &[usize], f: usize) -> bool
+    requires { ⌜ InRange (chartOf (now vertices) (now edges) (now faces)) ⌝ ∗ ⌜ f < length (now faces) ⌝ }
+    ensures { λ r. ⌜ r ≡ crowded (chartOf (now (vertices .entry)) (now (edges .entry)) (now (faces .entry))) f ⌝ }
+{
+    if f == 0 {
+        return false;
+    }
+    let h = chart::adjacent_of(faces, f);
+    let a = chart::from_of(vertices, edges, faces, chart::prev_of(edges, h));
+    let b = chart::from_of(vertices, edges, faces, h);
+    let c = chart::from_of(vertices, edges, faces, chart::next_of(edges, h));
+    some_inside(vertices, a, b, c)
+}
+
+// 9: an inner face whose corners don't turn strictly left.
+pub fn some_not_left(vertices: &[i64], edges: &[usize], faces: &[usize]) -> bool
+    requires { ⌜ InRange (chartOf (now vertices) (now edges) (now faces)) ⌝ }
+    ensures { λ r. ⌜ r ≡ some (notLeft (chartOf (now (vertices .entry)) (now (edges .entry)) (now (faces .entry)))) (length (now (faces .entry))) ⌝ }
+{
+    let n = faces.len();
+    let mut f = 0;
+    while f < n {
+        if is_not_left(vertices, edges, faces, f) {
+            return true;
+        }
+        f += 1;
+    }
+    false
+}
+
+// 10: a vertex strictly left of an outer half-edge.
+pub fn some_overhung(vertices: &[i64], edges: &[usize], faces: &[usize]) -> bool
+    requires { ⌜ InRange (chartOf (now vertices) (now edges) (now faces)) ⌝ }
+    ensures { λ r. ⌜ r ≡ some (overhung (chartOf (now (vertices .entry)) (now (edges .entry)) (now (faces .entry)))) (rows (now (edges .entry))) ⌝ }
+{
+    let n = edges.len() / 4;
+    let mut h = 0;
+    while h < n {
+        if is_overhung(vertices, edges, faces, h) {
+            return true;
+        }
+        h += 1;
+    }
+    false
+}
+
+// 11: a vertex strictly inside an inner face's circle.
+pub fn some_crowded(vertices: &[i64], edges: &[usize], faces: &[usize]) -> bool
+    requires { ⌜ InRange (chartOf (now vertices) (now edges) (now faces)) ⌝ }
+    ensures { λ r. ⌜ r ≡ some (crowded (chartOf (now (vertices .entry)) (now (edges .entry)) (now (faces .entry)))) (length (now (faces .entry))) ⌝ }
+{
+    let n = faces.len();
+    let mut f = 0;
+    while f < n {
+        if is_crowded(vertices, edges, faces, f) {
+            return true;
+        }
+        f += 1;
+    }
+    false
+}

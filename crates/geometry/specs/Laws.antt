@@ -1,0 +1,162 @@
+-- Laws of the side and the circle, each an equation of polynomials that `solve!` computes. Assumes nothing.
+use mathlib.Core.Path.{_≡_, refl, sym, subst, ap, _∙_}
+use mathlib.Core.Bool.{Bool, true, false, _&&_}
+use mathlib.Core.List.{List, [], _∷_}
+use Prim.Native.Nat.{ℕ}
+use lib.IntN.{ℤ, pos, _+ℤ_, _-ℤ_, _*ℤ_, +ℤ-idr}
+use lib.Signed.{ltZ}
+use Rattle.whole.specs.Bools.{and-true}
+use Rattle.whole.specs.Test.{eqZ, eqZ-true, eq-eqZ}
+use Rattle.whole.specs.Poly.{Expr, var, con, _⊕_, _⊖_, _⊗_, env, agree, solve! }
+use Rattle.whole.specs.Sign.{Above, AtLeast, above-add, above-mul, above-atleast, atleast-add, above-cancel, both-above, square, below-zero, test-above, above-test}
+use Rattle.geometry.specs.declared.Place.{Place}
+use Rattle.geometry.specs.Plane.{vectorOf, crossOf, dotOf, norm2Of, side, lifted, circle, onOpenSegment}
+
+-- ---- the definitions over expressions: places whose coordinates are numbered variables
+pub record PlaceE : Type 0 where
+  pub x : Expr
+  pub y : Expr
+
+abbrev placeE : ℕ → ℕ → PlaceE
+placeE i j = record { x = var i; y = var j }
+
+abbrev vectorE : PlaceE → PlaceE → PlaceE
+vectorE p q = record { x = q .x ⊖ p .x; y = q .y ⊖ p .y }
+
+abbrev crossE : PlaceE → PlaceE → Expr
+crossE u v = u .x ⊗ v .y ⊖ u .y ⊗ v .x
+
+abbrev dotE : PlaceE → PlaceE → Expr
+dotE u v = u .x ⊗ v .x ⊕ u .y ⊗ v .y
+
+abbrev norm2E : PlaceE → Expr
+norm2E u = u .x ⊗ u .x ⊕ u .y ⊗ u .y
+
+abbrev sideE : PlaceE → PlaceE → PlaceE → Expr
+sideE a b q = crossE (vectorE a b) (vectorE a q)
+
+abbrev liftedE : PlaceE → PlaceE → PlaceE → Expr
+liftedE u v w = norm2E u ⊗ crossE v w ⊖ norm2E v ⊗ crossE u w ⊕ norm2E w ⊗ crossE u v
+
+abbrev circleE : PlaceE → PlaceE → PlaceE → PlaceE → Expr
+circleE a b c q = liftedE (vectorE q a) (vectorE q b) (vectorE q c)
+
+-- the places that the variables 0 to 7 stand for
+abbrev four : Place → Place → Place → Place → ℕ → ℤ
+four a b c q = env (a .x ∷ a .y ∷ b .x ∷ b .y ∷ c .x ∷ c .y ∷ q .x ∷ q .y ∷ [])
+
+abbrev A : PlaceE
+A = placeE 0 1
+
+abbrev B : PlaceE
+B = placeE 2 3
+
+abbrev C : PlaceE
+C = placeE 4 5
+
+abbrev Q : PlaceE
+Q = placeE 6 7
+
+-- ---- side
+-- the side of the reversed segment is the negative
+pub side-back : (a b q : Place) → side b a q ≡ pos 0 -ℤ side a b q
+unfolding side crossOf agree
+side-back a b q = solve! (four a b q q) (sideE B A C) (con (pos 0) ⊖ sideE A B C) tt
+
+-- turning the three places keeps it
+pub side-turn : (a b c : Place) → side a b c ≡ side b c a
+unfolding side crossOf agree
+side-turn a b c = solve! (four a b c c) (sideE A B C) (sideE B C A) tt
+
+-- ---- circle
+-- 01's form: the determinant with rows (ux, uy, ux² + uy²), along its first row
+unfoldable pub determinant : Place → Place → Place → ℤ
+determinant u v w =
+    u .x *ℤ (v .y *ℤ norm2Of w -ℤ norm2Of v *ℤ w .y) -ℤ u .y *ℤ (v .x *ℤ norm2Of w -ℤ norm2Of v *ℤ w .x)
+    +ℤ norm2Of u *ℤ (v .x *ℤ w .y -ℤ v .y *ℤ w .x)
+
+pub lifted-determinant : (u v w : Place) → lifted u v w ≡ determinant u v w
+unfolding lifted determinant norm2Of crossOf agree
+lifted-determinant u v w =
+    solve! (four u v w w) (liftedE A B C)
+    (A .x ⊗ (B .y ⊗ norm2E C ⊖ norm2E B ⊗ C .y) ⊖ A .y ⊗ (B .x ⊗ norm2E C ⊖ norm2E B ⊗ C .x)
+    ⊕ norm2E A ⊗ (B .x ⊗ C .y ⊖ B .y ⊗ C .x)) tt
+
+-- turning a, b, c keeps it
+pub circle-turn : (a b c q : Place) → circle a b c q ≡ circle b c a q
+unfolding circle lifted norm2Of crossOf agree
+circle-turn a b c q = solve! (four a b c q) (circleE A B C Q) (circleE B C A Q) tt
+
+-- a and q exchanged: the other sign
+pub circle-swap : (a b c q : Place) → circle a b c q ≡ pos 0 -ℤ circle q b c a
+unfolding circle lifted norm2Of crossOf agree
+circle-swap a b c q = solve! (four a b c q) (circleE A B C Q) (con (pos 0) ⊖ circleE Q B C A) tt
+
+-- inside the circle, by the exchanged determinant
+pub inside-swap : (a b c q : Place) → ltZ (circle q b c a) (pos 0) ≡ ltZ (pos 0) (circle a b c q)
+inside-swap a b c q = sym (ap (λ (z : ℤ). ltZ (pos 0) z) (circle-swap a b c q) ∙ below-zero (circle q b c a))
+
+-- ---- the open segment
+norm2-low : (u : Place) → AtLeast (norm2Of u)
+unfolding norm2Of
+norm2-low u = atleast-add (square (u .x)) (square (u .y))
+
+-- q is on the line and strictly between the ends: its part along a to b is above 0 and below the whole
+pub record Between (a b q : Place) : Type 0 where
+  pub on-line : side a b q ≡ pos 0
+  pub past-a : Above (dotOf (vectorOf a q) (vectorOf a b))
+  pub before-b : Above (norm2Of (vectorOf a b) -ℤ dotOf (vectorOf a q) (vectorOf a b))
+
+module _ (a b q : Place) where
+  -- the ends seen from q, q's part along a to b, and what is left of it
+  abbrev ends : ℤ
+  ends = dotOf (vectorOf q a) (vectorOf q b)
+
+  abbrev part : ℤ
+  part = dotOf (vectorOf a q) (vectorOf a b)
+
+  abbrev rest : ℤ
+  rest = norm2Of (vectorOf a b) -ℤ dotOf (vectorOf a q) (vectorOf a b)
+
+  -- Lagrange's identity
+  product : part *ℤ rest ≡ norm2Of (vectorOf a b) *ℤ (pos 0 -ℤ ends) +ℤ side a b q *ℤ side a b q
+  unfolding side crossOf dotOf norm2Of agree
+  product =
+      solve! (four a b q q)
+      (dotE (vectorE A C) (vectorE A B) ⊗ (norm2E (vectorE A B) ⊖ dotE (vectorE A C) (vectorE A B)))
+      (norm2E (vectorE A B) ⊗ (con (pos 0) ⊖ dotE (vectorE C A) (vectorE C B)) ⊕ sideE A B C ⊗ sideE A B C) tt
+
+  whole : part +ℤ rest ≡ norm2Of (vectorOf a b)
+  unfolding dotOf norm2Of agree
+  whole =
+      solve! (four a b q q)
+      (dotE (vectorE A C) (vectorE A B) ⊕ (norm2E (vectorE A B) ⊖ dotE (vectorE A C) (vectorE A B)))
+      (norm2E (vectorE A B)) tt
+
+  cosines : (pos 0 -ℤ ends) +ℤ ((pos 0 -ℤ ends) +ℤ (norm2Of (vectorOf q a) +ℤ norm2Of (vectorOf q b))) ≡ norm2Of (vectorOf a b)
+  unfolding dotOf norm2Of agree
+  cosines =
+      let e = con (pos 0) ⊖ dotE (vectorE C A) (vectorE C B) in
+      solve! (four a b q q) (e ⊕ (e ⊕ (norm2E (vectorE C A) ⊕ norm2E (vectorE C B)))) (norm2E (vectorE A B)) tt
+
+  -- on the line the squared side goes
+  on-product : side a b q ≡ pos 0 → part *ℤ rest ≡ norm2Of (vectorOf a b) *ℤ (pos 0 -ℤ ends)
+  on-product e = product ∙ ap (λ (z : ℤ). norm2Of (vectorOf a b) *ℤ (pos 0 -ℤ ends) +ℤ z *ℤ z) e ∙ +ℤ-idr (norm2Of (vectorOf a b) *ℤ (pos 0 -ℤ ends))
+
+  -- what the definition calls the open segment is the line strictly between the ends
+  pub open-between : onOpenSegment a b q ≡ true → Between a b q
+  unfolding onOpenSegment
+  open-between e =
+      let t = and-true (eqZ (side a b q) (pos 0)) (ltZ ends (pos 0)) e in
+      let o : side a b q ≡ pos 0 = eqZ-true (side a b q) (pos 0) (t .0) in
+      let n : Above (pos 0 -ℤ ends) = test-above (below-zero ends ∙ t .1) in
+      let w : Above (norm2Of (vectorOf a b)) = subst Above cosines (above-add n (above-atleast n (atleast-add (norm2-low (vectorOf q a)) (norm2-low (vectorOf q b))))) in
+      let r = both-above part rest (subst Above (sym (on-product o)) (above-mul w n)) (subst Above (sym whole) w) in
+      record { on-line = o; past-a = r .0; before-b = r .1 }
+
+  pub between-open : Between a b q → onOpenSegment a b q ≡ true
+  unfolding onOpenSegment
+  between-open h =
+      let w : Above (norm2Of (vectorOf a b)) = subst Above whole (above-add (h .past-a) (h .before-b)) in
+      let n : Above (pos 0 -ℤ ends) = above-cancel (norm2Of (vectorOf a b)) (pos 0 -ℤ ends) w (subst Above (on-product (h .on-line)) (above-mul (h .past-a) (h .before-b))) in
+      simp (eq-eqZ (side a b q) (pos 0) (h .on-line), sym (below-zero ends) ∙ above-test n)

@@ -1,0 +1,89 @@
+-- 01, "Side and circle": the determinants whose signs are the side and the circle, over the whole numbers.
+use mathlib.Core.Path.{_≡_, refl}
+use mathlib.Core.Bool.{Bool, true, false, _&&_, _||_}
+use Prim.Native.Nat.{ℕ, _+_, _*_, _-_}
+use lib.IntN.{ℤ, pos, negsuc, negℤ, _+ℤ_, _-ℤ_, _*ℤ_}
+use lib.Signed.{ltZ}
+use Rattle.whole.specs.Bound.{Within, outside, outside-within, sub-in, add-in, mul-in}
+use Rattle.whole.specs.Test.{eqZ}
+use Rattle.whole.specs.Bools.{or-false}
+use Rattle.geometry.specs.declared.Place.{Place}
+
+-- the grid's bound: coordinates run from -Grid to Grid (01, row 6 and row 13)
+abbrev pub Grid : ℕ
+Grid = 10000
+
+-- the coordinate x or y is not -10,000 to 10,000
+unfoldable pub offGrid : Place → Bool
+offGrid p = outside (negℤ (pos Grid)) (pos Grid) (p .x) || outside (negℤ (pos Grid)) (pos Grid) (p .y)
+
+-- a place of the grid
+pub record OnGrid (p : Place) : Type 0 where
+  pub x-in : Within Grid (p .x)
+  pub y-in : Within Grid (p .y)
+
+-- the vector from p to q
+abbrev pub vectorOf : Place → Place → Place
+vectorOf p q = record { x = q .x -ℤ p .x; y = q .y -ℤ p .y }
+
+-- u × v
+unfoldable pub crossOf : Place → Place → ℤ
+crossOf u v = u .x *ℤ v .y -ℤ u .y *ℤ v .x
+
+-- u · v
+unfoldable pub dotOf : Place → Place → ℤ
+dotOf u v = u .x *ℤ v .x +ℤ u .y *ℤ v .y
+
+-- ux² + uy²
+unfoldable pub norm2Of : Place → ℤ
+norm2Of u = u .x *ℤ u .x +ℤ u .y *ℤ u .y
+
+-- side of q at a to b: (bx-ax)(qy-ay) - (by-ay)(qx-ax)
+unfoldable pub side : Place → Place → Place → ℤ
+side a b q = crossOf (vectorOf a b) (vectorOf a q)
+
+-- the 3 by 3 determinant with rows (ux, uy, ux² + uy²), along its last column; `lifted-determinant` has it along the first row
+unfoldable pub lifted : Place → Place → Place → ℤ
+lifted u v w = norm2Of u *ℤ crossOf v w -ℤ norm2Of v *ℤ crossOf u w +ℤ norm2Of w *ℤ crossOf u v
+
+-- q is strictly inside the circle of the left-turning a, b, c when this is above 0: the rows are a-q, b-q, c-q
+unfoldable pub circle : Place → Place → Place → Place → ℤ
+circle a b c q = lifted (vectorOf q a) (vectorOf q b) (vectorOf q c)
+
+-- q is on the open segment from a to b: on the line, and the ends lie in opposite directions. `Between` says the same in other words
+unfoldable pub onOpenSegment : Place → Place → Place → Bool
+onOpenSegment a b q = eqZ (side a b q) (pos 0) && ltZ (dotOf (vectorOf q a) (vectorOf q b)) (pos 0)
+
+-- ---- bounds: how large a coordinate of a vector between two places of the grid, and a cross product of two, can be
+abbrev pub Step : ℕ
+Step = Grid + Grid
+
+abbrev pub Area : ℕ
+Area = Step * Step + Step * Step
+
+-- a vector between two places of the grid
+pub record Near (u : Place) : Type 0 where
+  pub x-in : Within Step (u .x)
+  pub y-in : Within Step (u .y)
+
+pub vector-near : {p q : Place} → OnGrid p → OnGrid q → Near (vectorOf p q)
+vector-near p q = record { x-in = sub-in (q .x-in) (p .x-in); y-in = sub-in (q .y-in) (p .y-in) }
+
+pub cross-in : {u v : Place} → Near u → Near v → Within Area (crossOf u v)
+unfolding crossOf
+cross-in u v = sub-in (mul-in (u .x-in) (v .y-in)) (mul-in (u .y-in) (v .x-in))
+
+pub norm2-in : {u : Place} → Near u → Within Area (norm2Of u)
+unfolding norm2Of
+norm2-in u = add-in (mul-in (u .x-in) (u .x-in)) (mul-in (u .y-in) (u .y-in))
+
+pub side-in : {a b q : Place} → OnGrid a → OnGrid b → OnGrid q → Within Area (side a b q)
+unfolding side
+side-in a b q = cross-in (vector-near a b) (vector-near a q)
+
+-- what is not off the grid is on it
+pub on-grid : (p : Place) → offGrid p ≡ false → OnGrid p
+unfolding offGrid
+on-grid p e =
+    let b = or-false (outside (negℤ (pos Grid)) (pos Grid) (p .x)) (outside (negℤ (pos Grid)) (pos Grid) (p .y)) e in
+    record { x-in = outside-within (Grid - 1) (p .x) (b .0); y-in = outside-within (Grid - 1) (p .y) (b .1) }

@@ -1,0 +1,89 @@
+// Side and circle, exact in 64 bits on the whole grid (01, "Side and circle"; math.rs).
+ghost use mathlib.Core.Path.{_≡_};
+ghost use lib.IntN.{pos};
+ghost use lib.Signed.{ltZ};
+ghost use Rattle.geometry.specs.Plane.{OnGrid, Near, vectorOf, crossOf, norm2Of, lifted, side, circle, offGrid};
+
+// The grid's bound: coordinates run from -GRID to GRID.
+pub const GRID: i64 = 10000;
+
+const LOW: i64 = -GRID;
+
+// A place of the plane, or a vector between two places, in whole numbers.
+pub struct Place {
+    pub x: i64,
+    pub y: i64,
+}
+
+// The vector from p to q.
+fn vector(p: Place, q: Place) -> Place
+    requires { ⌜ OnGrid p ⌝ ∗ ⌜ OnGrid q ⌝ }
+    ensures { λ r. ⌜ r ≡ vectorOf p q ⌝ }
+{
+    Place {
+        x: q.x - p.x,
+        y: q.y - p.y,
+    }
+}
+
+// The cross product u × v.
+fn cross(u: Place, v: Place) -> i64
+    requires { ⌜ Near u ⌝ ∗ ⌜ Near v ⌝ }
+    ensures { λ r. ⌜ r ≡ crossOf u v ⌝ }
+{
+    u.x * v.y - u.y * v.x
+}
+
+// The squared length |u|².
+fn norm2(u: Place) -> i64
+    requires { ⌜ Near u ⌝ }
+    ensures { λ r. ⌜ r ≡ norm2Of u ⌝ }
+{
+    u.x * u.x + u.y * u.y
+}
+
+// The side of q at a to b: above 0 left, 0 on the line, below 0 right.
+pub fn side_query(a: Place, b: Place, q: Place) -> i64
+    requires { ⌜ OnGrid a ⌝ ∗ ⌜ OnGrid b ⌝ ∗ ⌜ OnGrid q ⌝ }
+    ensures { λ r. ⌜ r ≡ side a b q ⌝ }
+{
+    cross(vector(a, b), vector(a, q))
+}
+
+// Whether q is strictly left of a to b.
+pub fn is_on_left_side(a: Place, b: Place, q: Place) -> bool
+    requires { ⌜ OnGrid a ⌝ ∗ ⌜ OnGrid b ⌝ ∗ ⌜ OnGrid q ⌝ }
+    ensures { λ r. ⌜ r ≡ ltZ (pos 0) (side a b q) ⌝ }
+{
+    0 < side_query(a, b, q)
+}
+
+// Whether the determinant of three lifted vectors is below 0.
+fn lifted_below_zero(u: Place, v: Place, w: Place) -> bool
+    requires { ⌜ Near u ⌝ ∗ ⌜ Near v ⌝ ∗ ⌜ Near w ⌝ }
+    ensures { λ r. ⌜ r ≡ ltZ (lifted u v w) (pos 0) ⌝ }
+{
+    let a = norm2(u) * cross(v, w);
+    let b = norm2(v) * cross(u, w);
+    let c = norm2(w) * cross(u, v);
+    a - b + c < 0
+}
+
+// Whether q is strictly inside the circle of the left-turning a, b, c. The determinant with a and q exchanged has the other
+// sign, and the minors of b and c do not depend on q: a scan over q works them out once.
+pub fn contained_in_circumference(a: Place, b: Place, c: Place, q: Place) -> bool
+    requires { ⌜ OnGrid a ⌝ ∗ ⌜ OnGrid b ⌝ ∗ ⌜ OnGrid c ⌝ ∗ ⌜ OnGrid q ⌝ }
+    ensures { λ r. ⌜ r ≡ ltZ (pos 0) (circle a b c q) ⌝ }
+{
+    lifted_below_zero(vector(a, q), vector(a, b), vector(a, c))
+}
+
+// Whether a place is off the grid: 6 of a vertex, 13 of a load.
+pub fn off_grid(p: Place) -> bool
+    ensures { λ r. ⌜ r ≡ offGrid p ⌝ }
+{
+    if whole::is_outside(LOW, GRID, p.x) {
+        return true;
+    }
+    whole::is_outside(LOW, GRID, p.y)
+}

@@ -1,0 +1,54 @@
+-- `links::some_stray_adjacent` meets its contract. The loop's invariant: no number passed meets the test. Assumes nothing.
+use Prim.Native.Nat.{ℕ, _≤_, _<_, _-_}
+use mathlib.Core.Path.{_≡_, sym, ap, _∙_}
+use mathlib.Core.Bool.{false, not}
+use native.Mathlib.Nat.{lt-of-lt-of-le, not-suc-le-zero}
+use native.Mathlib.Omega.{arith}
+use borrow.Author.Count.{below-more}
+use Rattle.whole.specs.First.{some-at, some-none}
+use Rattle.chart.specs.Chart.{chartOf}
+use Rattle.links.specs.Links.{strayAdjacent}
+use borrow.Author.Needs.{needs}
+use Rattle.links.proofs.some_stray_adjacent.Statement.{statement}
+use Rattle.links.proofs.some_stray_adjacent.Tie as tie
+
+abbrev Inv-loop : tie.InvT-loop
+Inv-loop vertices edges faces n f₀ f = (f ≤ n) × ((k : ℕ) → k < f → strayAdjacent (chartOf vertices edges faces) k ≡ false)
+
+abbrev μ-loop : tie.MeasureT-loop
+μ-loop vertices edges faces n f₀ f = n - f
+
+loop-holds : tie.Need-loop-holds Inv-loop μ-loop
+loop-holds c = (omega arith, λ k l. absurd (not-suc-le-zero l))
+
+adjacent-has-requires : tie.Need-adjacent-has-requires Inv-loop μ-loop
+adjacent-has-requires c κs = search needs
+
+returns : tie.Need-returns Inv-loop μ-loop
+returns c = sym (some-at _ _ _ (c .before .before .loop-test .taken) (ap not (sym (c .before .adjacent-has .ensures)) ∙ c .if1 .taken))
+
+add-f : tie.Need-add-f Inv-loop μ-loop
+add-f c = search needs
+
+loop-less : tie.Need-loop-less Inv-loop μ-loop
+loop-less c = search needs
+
+loop-again : tie.Need-loop-again Inv-loop μ-loop
+loop-again c = (search needs, below-more _ _ (c .before .before .before .loop .inv .1) (ap not (sym (c .before .adjacent-has .ensures)) ∙ c .if1 .left))
+
+returns-2 : tie.Need-returns-2 Inv-loop μ-loop
+returns-2 c = sym (some-none _ _ (λ k l. c .before .loop .inv .1 k (lt-of-lt-of-le l (c .loop-test .left))))
+
+pub some-stray-adjacent-spec : {M : Type 1} → statement M
+some-stray-adjacent-spec =
+    tie.close
+    (tie.spec
+    Inv-loop
+    μ-loop
+    loop-holds
+    adjacent-has-requires
+    returns
+    add-f
+    loop-less
+    loop-again
+    returns-2)

@@ -1,0 +1,53 @@
+-- `ranges::some_bad_half_edge` meets its contract. The loop's invariant: no number passed meets the test. Assumes nothing.
+use Prim.Native.Nat.{ℕ, _≤_, _<_, _-_}
+use mathlib.Core.Path.{_≡_, sym, _∙_}
+use mathlib.Core.Bool.{false}
+use native.Mathlib.Nat.{lt-of-lt-of-le, not-suc-le-zero}
+use native.Mathlib.Omega.{arith}
+use borrow.Author.Count.{below-more}
+use Rattle.whole.specs.First.{some-at, some-none}
+use Rattle.ranges.specs.Ranges.{badHalfEdge}
+use borrow.Author.Needs.{needs}
+use Rattle.ranges.proofs.some_bad_half_edge.Statement.{statement}
+use Rattle.ranges.proofs.some_bad_half_edge.Tie as tie
+
+abbrev Inv-loop : tie.InvT-loop
+Inv-loop edges vertices faces n h₀ h = (h ≤ n) × ((k : ℕ) → k < h → badHalfEdge vertices faces edges k ≡ false)
+
+abbrev μ-loop : tie.MeasureT-loop
+μ-loop edges vertices faces n h₀ h = n - h
+
+loop-holds : tie.Need-loop-holds Inv-loop μ-loop
+loop-holds c = (omega arith, λ k l. absurd (not-suc-le-zero l))
+
+is-bad-half-edge-requires : tie.Need-is-bad-half-edge-requires Inv-loop μ-loop
+is-bad-half-edge-requires c κs = search needs
+
+returns : tie.Need-returns Inv-loop μ-loop
+returns c = sym (some-at _ _ _ (c .before .before .loop-test .taken) (sym (c .before .is-bad-half-edge .ensures) ∙ c .if1 .taken))
+
+add-h : tie.Need-add-h Inv-loop μ-loop
+add-h c = search needs
+
+loop-less : tie.Need-loop-less Inv-loop μ-loop
+loop-less c = search needs
+
+loop-again : tie.Need-loop-again Inv-loop μ-loop
+loop-again c = (search needs, below-more _ _ (c .before .before .before .loop .inv .1) (sym (c .before .is-bad-half-edge .ensures) ∙ c .if1 .left))
+
+returns-2 : tie.Need-returns-2 Inv-loop μ-loop
+returns-2 c = sym (some-none _ _ (λ k l. c .before .loop .inv .1 k (lt-of-lt-of-le l (c .loop-test .left))))
+
+pub some-bad-half-edge-spec : {M : Type 1} → statement M
+some-bad-half-edge-spec =
+    tie.close
+    (tie.spec
+    Inv-loop
+    μ-loop
+    loop-holds
+    is-bad-half-edge-requires
+    returns
+    add-h
+    loop-less
+    loop-again
+    returns-2)

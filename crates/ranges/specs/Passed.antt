@@ -1,0 +1,126 @@
+-- What rows 4 and 6 leave of tables that they let pass. Assumes nothing.
+use mathlib.Core.Path.{_≡_, refl, sym, subst, ap, _∙_}
+use mathlib.Core.Bool.{Bool, true, false, not, false≢true}
+use mathlib.Core.List.{List, map}
+use Prim.Native.Nat.{ℕ, _+_, _*_, _/_, _%_, _≤_, _<_}
+use native.Mathlib.Nat.{add-zero}
+use lib.Dec.{eqb, ltb}
+use lib.IntN.{ℤ, pos, negsuc, natAbs}
+use lib.Signed.{ltZ}
+use lib.ListN.{length, getD, length-map, List·getD-map}
+use borrow.Author.Tests.{ltb-true, ltb-false, eqb-true, not-false}
+use Rattle.whole.specs.Bools.{or-false}
+use Rattle.whole.specs.Bound.{outside}
+use Rattle.whole.specs.First.{some, none-at}
+use Rattle.geometry.specs.Plane.{offGrid, on-grid}
+use Rattle.chart.specs.Tables.{rows, unsigned, unsignedAll, placeOf, valueOf}
+use Rattle.chart.specs.Chart.{Chart, chartOf, InRange}
+use Rattle.ranges.specs.Ranges.{countsRefused, odd, notBelow, cell, ValueMax, badVertex, badHalfEdge, badFace, outOfRange}
+
+-- ---- 4
+-- the counts that pass
+pub record Counted (v e f : ℕ) : Type 0 where
+  pub v-least : 3 ≤ v
+  pub v-most : v ≤ 128
+  pub e-least : 6 ≤ e
+  pub e-most : e ≤ 756
+  pub e-even : e % 2 ≡ 0
+  pub f-least : 2 ≤ f
+  pub f-most : f ≤ 252
+
+between : (lo hi n : ℕ) → outside (pos lo) (pos hi) (pos n) ≡ false → (lo ≤ n) × (n ≤ hi)
+between lo hi n e = let p = or-false (ltb n lo) (ltb hi n) e in (ltb-false n lo (p .0), ltb-false hi n (p .1))
+
+pub counted : (v e f : ℕ) → countsRefused (pos v) (pos e) (pos f) ≡ false → Counted v e f
+unfolding countsRefused
+counted v e f h =
+    let a = or-false (outside (pos 3) (pos 128) (pos v)) _ h in
+    let b = or-false (odd (pos e)) _ (a .1) in
+    let d = or-false (outside (pos 6) (pos 756) (pos e)) (outside (pos 2) (pos 252) (pos f)) (b .1) in
+    let x = between 3 128 v (a .0) in
+    let y = between 6 756 e (d .0) in
+    let z = between 2 252 f (d .1) in
+    record {
+      v-least = x .0;
+      v-most = x .1;
+      e-least = y .0;
+      e-most = y .1;
+      e-even = eqb-true (e % 2) 0 (not-false (eqb (e % 2) 0) (b .0));
+      f-least = z .0;
+      f-most = z .1;
+    }
+
+-- a count that passes is no negative number
+not-negative : (lo hi : ℕ) (z : ℤ) → outside (pos lo) (pos hi) z ≡ false → pos (unsigned z) ≡ z
+not-negative lo hi (pos n) e = refl
+not-negative lo hi (negsuc n) e = absurd (false≢true (sym e))
+
+pub passed-positive : (v e f : ℤ) → countsRefused v e f ≡ false → (pos (unsigned v) ≡ v) × ((pos (unsigned e) ≡ e) × (pos (unsigned f) ≡ f))
+unfolding countsRefused
+passed-positive v e f h =
+    let a = or-false (outside (pos 3) (pos 128) v) _ h in
+    let b = or-false (odd e) _ (a .1) in
+    let d = or-false (outside (pos 6) (pos 756) e) (outside (pos 2) (pos 252) f) (b .1) in
+    (not-negative 3 128 v (a .0), (not-negative 6 756 e (d .0), not-negative 2 252 f (d .1)))
+
+-- ---- 6
+below : (n : ℕ) (z : ℤ) → notBelow n z ≡ false → unsigned z < n
+unfolding notBelow
+below n (pos m) e = ltb-true m n (not-false (ltb m n) (or-false (ltb m 0) (not (ltb m n)) e .1))
+below n (negsuc m) e = absurd (false≢true (sym e))
+
+-- a number of a table taken over, below a count of one
+taken : (t : List ℤ) (k n m : ℕ) → n ≡ m → notBelow n (getD t k (pos 0)) ≡ false → getD (unsignedAll t) k 0 < m
+taken t k n m e h =
+    subst (λ (x : ℕ). x < m) (sym (List·getD-map unsigned t k (pos 0))) (subst (λ (x : ℕ). unsigned (getD t k (pos 0)) < x) e (below n (getD t k (pos 0)) h))
+
+same-rows : (t : List ℤ) → rows t ≡ rows (unsignedAll t)
+same-rows t = ap (λ (n : ℕ). n / 4) (sym (length-map t unsigned))
+
+module _ (vs es fs : List ℤ) (h : outOfRange vs es fs ≡ false) where
+  parts : (some (badVertex (rows es) vs) (rows vs) ≡ false) × ((some (badHalfEdge (rows vs) (length fs) es) (rows es) ≡ false) × (some (badFace (rows es) fs) (length fs) ≡ false))
+  unfolding outOfRange
+  parts =
+      let a = or-false (some (badVertex (rows es) vs) (rows vs)) _ h in
+      (a .0, or-false (some (badHalfEdge (rows vs) (length fs) es) (rows es)) (some (badFace (rows es) fs) (length fs)) (a .1))
+
+  vertex : (v : ℕ) → v < rows vs → (offGrid (placeOf vs v) ≡ false) × ((outside (pos 0) (pos ValueMax) (valueOf vs v) ≡ false) × (notBelow (rows es) (cell vs v 3) ≡ false))
+  unfolding badVertex
+  vertex v l =
+      let a = or-false (offGrid (placeOf vs v)) _ (none-at (badVertex (rows es) vs) (rows vs) (parts .0) v l) in
+      (a .0, or-false (outside (pos 0) (pos ValueMax) (valueOf vs v)) (notBelow (rows es) (cell vs v 3)) (a .1))
+
+  edge : (k : ℕ) → k < rows es → (notBelow (rows vs) (cell es k 0) ≡ false) × ((notBelow (rows es) (cell es k 1) ≡ false) × ((notBelow (rows es) (cell es k 2) ≡ false) × (notBelow (length fs) (cell es k 3) ≡ false)))
+  unfolding badHalfEdge
+  edge k l =
+      let a = or-false (notBelow (rows vs) (cell es k 0)) _ (none-at (badHalfEdge (rows vs) (length fs) es) (rows es) (parts .1 .0) k l) in
+      let b = or-false (notBelow (rows es) (cell es k 1)) _ (a .1) in
+      (a .0, (b .0, or-false (notBelow (rows es) (cell es k 2)) (notBelow (length fs) (cell es k 3)) (b .1)))
+
+  face : (f : ℕ) → f < length fs → notBelow (rows es) (getD fs f (pos 0)) ≡ false
+  unfolding badFace
+  face f l = none-at (badFace (rows es) fs) (length fs) (parts .1 .1) f l
+
+  -- the same bound, over the tables taken over
+  in-edges : {k : ℕ} → k < rows (unsignedAll es) → k < rows es
+  in-edges {k} l = subst (λ (n : ℕ). k < n) (sym (same-rows es)) l
+
+  in-faces : {k : ℕ} → k < length (unsignedAll fs) → k < length fs
+  in-faces {k} l = subst (λ (n : ℕ). k < n) (length-map fs unsigned) l
+
+  -- a value is 0 to 1,000,000
+  pub values-in : (v : ℕ) → v < rows vs → outside (pos 0) (pos ValueMax) (valueOf vs v) ≡ false
+  values-in v l = vertex v l .1 .0
+
+  pub in-range : rows es % 2 ≡ 0 → InRange (chartOf vs (unsignedAll es) (unsignedAll fs))
+  in-range even =
+      record {
+        places = λ v l. on-grid (placeOf vs v) (vertex v l .0);
+        outs = λ v l. subst (λ (n : ℕ). unsigned (cell vs v 3) < n) (same-rows es) (below (rows es) (cell vs v 3) (vertex v l .1 .1));
+        origins = λ k l. subst (λ (n : ℕ). getD (unsignedAll es) n 0 < rows vs) (add-zero (k * 4)) (taken es (k * 4 + 0) (rows vs) (rows vs) refl (edge k (in-edges l) .0));
+        nexts = λ k l. taken es (k * 4 + 1) (rows es) _ (same-rows es) (edge k (in-edges l) .1 .0);
+        prevs = λ k l. taken es (k * 4 + 2) (rows es) _ (same-rows es) (edge k (in-edges l) .1 .1 .0);
+        face-numbers = λ k l. taken es (k * 4 + 3) (length fs) _ (sym (length-map fs unsigned)) (edge k (in-edges l) .1 .1 .1);
+        adjacents = λ f l. taken fs f (rows es) _ (same-rows es) (face f (in-faces l));
+        pairs = subst (λ (n : ℕ). n % 2 ≡ 0) (same-rows es) even;
+      }

@@ -1,0 +1,67 @@
+// Tables of chart text: lines of fields, each line with its line end.
+ghost use mathlib.Core.Path.{_≡_};
+ghost use Prim.Native.Nat.{_+_, _*_, _≤_, _<_};
+ghost use lib.ListN.{length, drop};
+ghost use Rattle.text.specs.Field.{fieldWidth};
+ghost use Rattle.tables.specs.Table.{lineOf, tableOf, given, lineBytes};
+use text::Field;
+
+// How many columns a field has.
+const COLUMNS: usize = 8;
+
+// Where the fields of a line start.
+const STARTS: [usize; 5] = [0, 8, 16, 24, 32];
+
+fn start(j: usize) -> usize
+    requires { ⌜ j < 5 ⌝ }
+    ensures { λ r. ⌜ r ≡ fieldWidth * j ⌝ }
+{
+    STARTS[j]
+}
+
+// One line from `at`: a field for each element of `row`, then the line end. Whether it is well formed; then `row` has its numbers.
+pub fn line(text: &[u8], at: usize, row: &mut [i64]) -> bool
+    requires { ⌜ (length (now row) ≤ 5) × (at + fieldWidth * length (now row) < length (now text)) ⌝ }
+    ensures { λ r. ⌜ lineOf (length (now (row .entry))) (drop at (now (text .entry))) ≡ given r (now (row .exit)) ⌝ }
+{
+    let mut j = 0;
+    let mut end = at;
+    while j < row.len() {
+        let a = at + start(j);
+        let e = a + COLUMNS;
+        let f = text::read_field(&text[a..e]);
+        match f {
+            Field::Number(z) => {
+                row[j] = z;
+            }
+            Field::Malformed => {
+                return false;
+            }
+        }
+        end = e;
+        j += 1;
+    }
+    text[end] == 10
+}
+
+// `n` lines of `w` fields from `at`. Whether they are well formed; then `cells` has their numbers, line after line.
+pub fn table(text: &[u8], at: usize, w: usize, n: usize, cells: &mut [i64]) -> bool
+    requires { ⌜ (w ≤ 5) × (n ≤ 1000) ⌝ }
+    requires { ⌜ (at + lineBytes w * n ≤ length (now text)) × (length (now cells) ≡ w * n) ⌝ }
+    ensures { λ r. ⌜ tableOf w n (drop at (now (text .entry))) ≡ given r (now (cells .exit)) ⌝ }
+{
+    let bytes = COLUMNS * w + 1;
+    let mut i = 0;
+    let mut pos = at;
+    let mut from = 0;
+    while i < n {
+        let to = from + w;
+        if !line(text, pos, &mut cells[from..to]) {
+            return false;
+        }
+        pos += bytes;
+        from = to;
+        i += 1;
+    }
+    true
+}
