@@ -1,5 +1,5 @@
 -- A chart as one value: its counts, and a function for each column of its tables.
-use mathlib.Core.Path.{_≡_, refl}
+use mathlib.Core.Path.{_≡_}
 use mathlib.Core.Bool.{Bool}
 use mathlib.Core.List.{List}
 use Prim.Native.Nat.{ℕ, _+_, _*_, _-_, _%_, _<_}
@@ -28,6 +28,7 @@ pub record Chart : Type 0 where
   -- of a face
   pub adjacent : ℕ → ℕ
 
+-- the chart of three tables
 abbrev pub chartOf : List ℤ → List ℕ → List ℕ → Chart
 chartOf vs es fs =
     record {
@@ -48,12 +49,15 @@ chartOf vs es fs =
 abbrev pub partner : ℕ → ℕ
 partner h = h + 1 - h % 2 * 2
 
+-- in 01's words: of 2k it is 2k+1
 pub partner-even : (k : ℕ) → partner (2 * k) ≡ 2 * k + 1
 partner-even k = omega arith
 
+-- and of 2k+1 it is 2k
 pub partner-odd : (k : ℕ) → partner (2 * k + 1) ≡ 2 * k
 partner-odd k = omega arith
 
+-- the partner's partner is the half-edge itself
 pub partner-twice : (h : ℕ) → partner (partner h) ≡ h
 partner-twice h = omega arith
 
@@ -82,5 +86,6 @@ pub record InRange (c : Chart) : Type 0 where
   pub adjacents : (f : ℕ) → f < c .faces → c .adjacent f < c .halfEdges
   pub pairs : c .halfEdges % 2 ≡ 0
 
+-- a half-edge's partner is a half-edge of the chart
 pub partner-in : {c : Chart} → InRange c → (h : ℕ) → h < c .halfEdges → partner h < c .halfEdges
 partner-in {c} r h l = let e = r .pairs in omega arith

@@ -2,7 +2,6 @@
 --     vertices      x, y, value, out half-edge
 --     half-edges    origin, next, prev, face
 --     faces         adjacent half-edge
-use mathlib.Core.Path.{_≡_, refl}
 use mathlib.Core.List.{List, map}
 use Prim.Native.Nat.{ℕ, _+_, _*_, _/_}
 use lib.IntN.{ℤ, pos, negsuc}

@@ -1,5 +1,5 @@
 -- 01, "Where a call can be turned down": the rows of tables, 6 to 11, first hit answers. Each number is tested over the whole chart before the next.
-use mathlib.Core.Bool.{Bool, cond}
+use mathlib.Core.Bool.{cond}
 use mathlib.Core.List.{List}
 use Prim.Native.Nat.{ℕ, zero, suc}
 use lib.IntN.{ℤ}

@@ -1,7 +1,7 @@
 -- Laws of the side and the circle, each an equation of polynomials that `solve!` computes. Assumes nothing.
-use mathlib.Core.Path.{_≡_, refl, sym, subst, ap, _∙_}
-use mathlib.Core.Bool.{Bool, true, false, _&&_}
-use mathlib.Core.List.{List, [], _∷_}
+use mathlib.Core.Path.{_≡_, sym, subst, ap, _∙_}
+use mathlib.Core.Bool.{true}
+use mathlib.Core.List.{[], _∷_}
 use Prim.Native.Nat.{ℕ}
 use lib.IntN.{ℤ, pos, _+ℤ_, _-ℤ_, _*ℤ_, +ℤ-idr}
 use lib.Signed.{ltZ}
@@ -75,6 +75,7 @@ determinant u v w =
     u .x *ℤ (v .y *ℤ norm2Of w -ℤ norm2Of v *ℤ w .y) -ℤ u .y *ℤ (v .x *ℤ norm2Of w -ℤ norm2Of v *ℤ w .x)
     +ℤ norm2Of u *ℤ (v .x *ℤ w .y -ℤ v .y *ℤ w .x)
 
+-- the two expansions are equal
 pub lifted-determinant : (u v w : Place) → lifted u v w ≡ determinant u v w
 unfolding lifted determinant norm2Of crossOf agree
 lifted-determinant u v w =
@@ -91,6 +92,14 @@ circle-turn a b c q = solve! (four a b c q) (circleE A B C Q) (circleE B C A Q) 
 pub circle-swap : (a b c q : Place) → circle a b c q ≡ pos 0 -ℤ circle q b c a
 unfolding circle lifted norm2Of crossOf agree
 circle-swap a b c q = solve! (four a b c q) (circleE A B C Q) (con (pos 0) ⊖ circleE Q B C A) tt
+
+-- the determinant, by powers of the first vector's coordinates
+pub lifted-horner : (u v w : Place) → u .x *ℤ (crossOf v w *ℤ u .x +ℤ (norm2Of w *ℤ v .y -ℤ norm2Of v *ℤ w .y)) +ℤ u .y *ℤ (crossOf v w *ℤ u .y +ℤ (norm2Of v *ℤ w .x -ℤ norm2Of w *ℤ v .x)) ≡ lifted u v w
+unfolding lifted norm2Of crossOf agree
+lifted-horner u v w =
+    solve! (four u v w w)
+    (A .x ⊗ (crossE B C ⊗ A .x ⊕ (norm2E C ⊗ B .y ⊖ norm2E B ⊗ C .y)) ⊕ A .y ⊗ (crossE B C ⊗ A .y ⊕ (norm2E B ⊗ C .x ⊖ norm2E C ⊗ B .x)))
+    (liftedE A B C) tt
 
 -- inside the circle, by the exchanged determinant
 pub inside-swap : (a b c q : Place) → ltZ (circle q b c a) (pos 0) ≡ ltZ (pos 0) (circle a b c q)

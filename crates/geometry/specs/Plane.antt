@@ -1,8 +1,8 @@
 -- 01, "Side and circle": the determinants whose signs are the side and the circle, over the whole numbers.
-use mathlib.Core.Path.{_≡_, refl}
-use mathlib.Core.Bool.{Bool, true, false, _&&_, _||_}
+use mathlib.Core.Path.{_≡_}
+use mathlib.Core.Bool.{Bool, false, _&&_, _||_}
 use Prim.Native.Nat.{ℕ, _+_, _*_, _-_}
-use lib.IntN.{ℤ, pos, negsuc, negℤ, _+ℤ_, _-ℤ_, _*ℤ_}
+use lib.IntN.{ℤ, pos, negℤ, _+ℤ_, _-ℤ_, _*ℤ_}
 use lib.Signed.{ltZ}
 use Rattle.whole.specs.Bound.{Within, outside, outside-within, sub-in, add-in, mul-in}
 use Rattle.whole.specs.Test.{eqZ}
@@ -58,25 +58,42 @@ onOpenSegment a b q = eqZ (side a b q) (pos 0) && ltZ (dotOf (vectorOf q a) (vec
 abbrev pub Step : ℕ
 Step = Grid + Grid
 
+-- a cross product or a squared length
 abbrev pub Area : ℕ
 Area = Step * Step + Step * Step
+
+-- and a squared length times a coordinate, less another
+abbrev pub Minor : ℕ
+Minor = Area * Step + Area * Step
 
 -- a vector between two places of the grid
 pub record Near (u : Place) : Type 0 where
   pub x-in : Within Step (u .x)
   pub y-in : Within Step (u .y)
 
+-- the vector between two places of the grid is near
 pub vector-near : {p q : Place} → OnGrid p → OnGrid q → Near (vectorOf p q)
 vector-near p q = record { x-in = sub-in (q .x-in) (p .x-in); y-in = sub-in (q .y-in) (p .y-in) }
 
+-- the bound of a cross product
 pub cross-in : {u v : Place} → Near u → Near v → Within Area (crossOf u v)
 unfolding crossOf
 cross-in u v = sub-in (mul-in (u .x-in) (v .y-in)) (mul-in (u .y-in) (v .x-in))
 
+-- the bound of a squared length
 pub norm2-in : {u : Place} → Near u → Within Area (norm2Of u)
 unfolding norm2Of
 norm2-in u = add-in (mul-in (u .x-in) (u .x-in)) (mul-in (u .y-in) (u .y-in))
 
+-- the bound of a minor
+pub minor-in : {s x t y : ℤ} → Within Area s → Within Step x → Within Area t → Within Step y → Within Minor (t *ℤ y -ℤ s *ℤ x)
+minor-in s x t y = sub-in (mul-in t y) (mul-in s x)
+
+-- the bound of half the circle's determinant
+pub horner-in : {d x e : ℤ} → Within Area d → Within Step x → Within Minor e → Within (Step * (Area * Step + Minor)) (x *ℤ (d *ℤ x +ℤ e))
+horner-in d x e = mul-in x (add-in (mul-in d x) e)
+
+-- the bound of a side
 pub side-in : {a b q : Place} → OnGrid a → OnGrid b → OnGrid q → Within Area (side a b q)
 unfolding side
 side-in a b q = cross-in (vector-near a b) (vector-near a q)

@@ -1,8 +1,9 @@
 // Side and circle, exact in 64 bits on the whole grid (01, "Side and circle"; math.rs).
 ghost use mathlib.Core.Path.{_≡_};
-ghost use lib.IntN.{pos};
+ghost use lib.IntN.{pos, _+ℤ_, _-ℤ_, _*ℤ_};
 ghost use lib.Signed.{ltZ};
-ghost use Rattle.geometry.specs.Plane.{OnGrid, Near, vectorOf, crossOf, norm2Of, lifted, side, circle, offGrid};
+ghost use Rattle.whole.specs.Bound.{Within};
+ghost use Rattle.geometry.specs.Plane.{Step, Area, Minor, OnGrid, Near, vectorOf, crossOf, norm2Of, lifted, side, circle, offGrid};
 
 // The grid's bound: coordinates run from -GRID to GRID.
 pub const GRID: i64 = 10000;
@@ -58,19 +59,38 @@ pub fn is_on_left_side(a: Place, b: Place, q: Place) -> bool
     0 < side_query(a, b, q)
 }
 
-// Whether the determinant of three lifted vectors is below 0.
+// t·y - s·x, for two squared lengths and two coordinates.
+fn minor(s: i64, x: i64, t: i64, y: i64) -> i64
+    requires { ⌜ Within Area s ⌝ ∗ ⌜ Within Step x ⌝ ∗ ⌜ Within Area t ⌝ ∗ ⌜ Within Step y ⌝ }
+    ensures { λ r. ⌜ r ≡ t *ℤ y -ℤ s *ℤ x ⌝ }
+{
+    t * y - s * x
+}
+
+// x·(d·x + e), for a cross product, a coordinate and a minor.
+fn horner(d: i64, x: i64, e: i64) -> i64
+    requires { ⌜ Within Area d ⌝ ∗ ⌜ Within Step x ⌝ ∗ ⌜ Within Minor e ⌝ }
+    ensures { λ r. ⌜ r ≡ x *ℤ (d *ℤ x +ℤ e) ⌝ }
+{
+    x * (d * x + e)
+}
+
+// Whether the determinant of three lifted vectors is below 0. It is u.x (d u.x + e) + u.y (d u.y + f), where d, e and f do not
+// depend on u: a scan over u works them out once.
 fn lifted_below_zero(u: Place, v: Place, w: Place) -> bool
     requires { ⌜ Near u ⌝ ∗ ⌜ Near v ⌝ ∗ ⌜ Near w ⌝ }
     ensures { λ r. ⌜ r ≡ ltZ (lifted u v w) (pos 0) ⌝ }
 {
-    let a = norm2(u) * cross(v, w);
-    let b = norm2(v) * cross(u, w);
-    let c = norm2(w) * cross(u, v);
-    a - b + c < 0
+    let d = cross(v, w);
+    let s = norm2(v);
+    let t = norm2(w);
+    let e = minor(s, w.y, t, v.y);
+    let f = minor(t, v.x, s, w.x);
+    horner(d, u.x, e) + horner(d, u.y, f) < 0
 }
 
 // Whether q is strictly inside the circle of the left-turning a, b, c. The determinant with a and q exchanged has the other
-// sign, and the minors of b and c do not depend on q: a scan over q works them out once.
+// sign: seen from a, the vectors to b and c stay the same in a scan over q.
 pub fn contained_in_circumference(a: Place, b: Place, c: Place, q: Place) -> bool
     requires { ⌜ OnGrid a ⌝ ∗ ⌜ OnGrid b ⌝ ∗ ⌜ OnGrid c ⌝ ∗ ⌜ OnGrid q ⌝ }
     ensures { λ r. ⌜ r ≡ ltZ (pos 0) (circle a b c q) ⌝ }

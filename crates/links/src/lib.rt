@@ -5,7 +5,7 @@ ghost use mathlib.Core.Bool.{false};
 ghost use lib.ListN.{length, replicate};
 ghost use Rattle.whole.specs.First.{some};
 ghost use Rattle.chart.specs.Tables.{rows};
-ghost use Rattle.chart.specs.Chart.{chartOf, InRange, outer};
+ghost use Rattle.chart.specs.Chart.{chartOf, InRange};
 ghost use Rattle.links.specs.Links.{nextStarts, endsDiffer, prevNext, nextPrev, keepsFace, threeNexts, ofItsFace, linked, unlinked, outStarts, strayOut, adjacentHas, strayAdjacent, leavesAgain, linksBroken};
 
 // The next of h starts at the origin of h's partner.

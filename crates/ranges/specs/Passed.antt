@@ -1,12 +1,11 @@
 -- What rows 4 and 6 leave of tables that they let pass. Assumes nothing.
-use mathlib.Core.Path.{_≡_, refl, sym, subst, ap, _∙_}
-use mathlib.Core.Bool.{Bool, true, false, not, false≢true}
-use mathlib.Core.List.{List, map}
+use mathlib.Core.Path.{_≡_, refl, sym, subst, ap}
+use mathlib.Core.Bool.{true, false, not, false≢true}
+use mathlib.Core.List.{List}
 use Prim.Native.Nat.{ℕ, _+_, _*_, _/_, _%_, _≤_, _<_}
 use native.Mathlib.Nat.{add-zero}
 use lib.Dec.{eqb, ltb}
-use lib.IntN.{ℤ, pos, negsuc, natAbs}
-use lib.Signed.{ltZ}
+use lib.IntN.{ℤ, pos, negsuc}
 use lib.ListN.{length, getD, length-map, List·getD-map}
 use borrow.Author.Tests.{ltb-true, ltb-false, eqb-true, not-false}
 use Rattle.whole.specs.Bools.{or-false}
@@ -14,7 +13,7 @@ use Rattle.whole.specs.Bound.{outside}
 use Rattle.whole.specs.First.{some, none-at}
 use Rattle.geometry.specs.Plane.{offGrid, on-grid}
 use Rattle.chart.specs.Tables.{rows, unsigned, unsignedAll, placeOf, valueOf}
-use Rattle.chart.specs.Chart.{Chart, chartOf, InRange}
+use Rattle.chart.specs.Chart.{chartOf, InRange}
 use Rattle.ranges.specs.Ranges.{countsRefused, odd, notBelow, cell, ValueMax, badVertex, badHalfEdge, badFace, outOfRange}
 
 -- ---- 4
@@ -28,9 +27,11 @@ pub record Counted (v e f : ℕ) : Type 0 where
   pub f-least : 2 ≤ f
   pub f-most : f ≤ 252
 
+-- a number that is not outside
 between : (lo hi n : ℕ) → outside (pos lo) (pos hi) (pos n) ≡ false → (lo ≤ n) × (n ≤ hi)
 between lo hi n e = let p = or-false (ltb n lo) (ltb hi n) e in (ltb-false n lo (p .0), ltb-false hi n (p .1))
 
+-- what row 4 leaves
 pub counted : (v e f : ℕ) → countsRefused (pos v) (pos e) (pos f) ≡ false → Counted v e f
 unfolding countsRefused
 counted v e f h =
@@ -55,6 +56,7 @@ not-negative : (lo hi : ℕ) (z : ℤ) → outside (pos lo) (pos hi) z ≡ false
 not-negative lo hi (pos n) e = refl
 not-negative lo hi (negsuc n) e = absurd (false≢true (sym e))
 
+-- all three counts are no negative numbers
 pub passed-positive : (v e f : ℤ) → countsRefused v e f ≡ false → (pos (unsigned v) ≡ v) × ((pos (unsigned e) ≡ e) × (pos (unsigned f) ≡ f))
 unfolding countsRefused
 passed-positive v e f h =
@@ -74,22 +76,26 @@ taken : (t : List ℤ) (k n m : ℕ) → n ≡ m → notBelow n (getD t k (pos 0
 taken t k n m e h =
     subst (λ (x : ℕ). x < m) (sym (List·getD-map unsigned t k (pos 0))) (subst (λ (x : ℕ). unsigned (getD t k (pos 0)) < x) e (below n (getD t k (pos 0)) h))
 
+-- taking a table over keeps its rows
 same-rows : (t : List ℤ) → rows t ≡ rows (unsignedAll t)
 same-rows t = ap (λ (n : ℕ). n / 4) (sym (length-map t unsigned))
 
 module _ (vs es fs : List ℤ) (h : outOfRange vs es fs ≡ false) where
+  -- the three scans of row 6
   parts : (some (badVertex (rows es) vs) (rows vs) ≡ false) × ((some (badHalfEdge (rows vs) (length fs) es) (rows es) ≡ false) × (some (badFace (rows es) fs) (length fs) ≡ false))
   unfolding outOfRange
   parts =
       let a = or-false (some (badVertex (rows es) vs) (rows vs)) _ h in
       (a .0, or-false (some (badHalfEdge (rows vs) (length fs) es) (rows es)) (some (badFace (rows es) fs) (length fs)) (a .1))
 
+  -- what it leaves of a vertex
   vertex : (v : ℕ) → v < rows vs → (offGrid (placeOf vs v) ≡ false) × ((outside (pos 0) (pos ValueMax) (valueOf vs v) ≡ false) × (notBelow (rows es) (cell vs v 3) ≡ false))
   unfolding badVertex
   vertex v l =
       let a = or-false (offGrid (placeOf vs v)) _ (none-at (badVertex (rows es) vs) (rows vs) (parts .0) v l) in
       (a .0, or-false (outside (pos 0) (pos ValueMax) (valueOf vs v)) (notBelow (rows es) (cell vs v 3)) (a .1))
 
+  -- of a half-edge
   edge : (k : ℕ) → k < rows es → (notBelow (rows vs) (cell es k 0) ≡ false) × ((notBelow (rows es) (cell es k 1) ≡ false) × ((notBelow (rows es) (cell es k 2) ≡ false) × (notBelow (length fs) (cell es k 3) ≡ false)))
   unfolding badHalfEdge
   edge k l =
@@ -97,6 +103,7 @@ module _ (vs es fs : List ℤ) (h : outOfRange vs es fs ≡ false) where
       let b = or-false (notBelow (rows es) (cell es k 1)) _ (a .1) in
       (a .0, (b .0, or-false (notBelow (rows es) (cell es k 2)) (notBelow (length fs) (cell es k 3)) (b .1)))
 
+  -- of a face
   face : (f : ℕ) → f < length fs → notBelow (rows es) (getD fs f (pos 0)) ≡ false
   unfolding badFace
   face f l = none-at (badFace (rows es) fs) (length fs) (parts .1 .1) f l
@@ -105,6 +112,7 @@ module _ (vs es fs : List ℤ) (h : outOfRange vs es fs ≡ false) where
   in-edges : {k : ℕ} → k < rows (unsignedAll es) → k < rows es
   in-edges {k} l = subst (λ (n : ℕ). k < n) (sym (same-rows es)) l
 
+  -- and so is a face's
   in-faces : {k : ℕ} → k < length (unsignedAll fs) → k < length fs
   in-faces {k} l = subst (λ (n : ℕ). k < n) (length-map fs unsigned) l
 
@@ -112,6 +120,7 @@ module _ (vs es fs : List ℤ) (h : outOfRange vs es fs ≡ false) where
   pub values-in : (v : ℕ) → v < rows vs → outside (pos 0) (pos ValueMax) (valueOf vs v) ≡ false
   values-in v l = vertex v l .1 .0
 
+  -- what row 6 leaves: every number is in range
   pub in-range : rows es % 2 ≡ 0 → InRange (chartOf vs (unsignedAll es) (unsignedAll fs))
   in-range even =
       record {

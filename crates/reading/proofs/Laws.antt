@@ -1,21 +1,19 @@
 -- Laws of the definitions of specs/Reading.antt, a step at a time. Assumes nothing.
 use Prim.Native.Nat.{ℕ, zero, suc, _+_, _*_, _≤_, _<_}
-use mathlib.Core.List.{List, [], _∷_}
-use mathlib.Core.Bool.{Bool, true, false}
-use mathlib.Core.Path.{_≡_, refl, ap, sym, _∙_}
+use mathlib.Core.List.{List}
+use mathlib.Core.Bool.{Bool}
+use mathlib.Core.Path.{_≡_, refl, ap, _∙_}
 use native.Mathlib.Omega.{arith}
-use lib.ListN.{length, drop, getD}
-use lib.Dec.{ltb, eqb}
-use lib.IntN.{ℤ, pos, negsuc}
+use lib.ListN.{length, drop}
+use lib.IntN.{ℤ}
 use borrow.Author.Tests.{lt-ltb, le-ltb, eq-eqb, ne-eqb}
-use Rattle.tables.specs.Table.{Cells, lineOf, tableOf, lineBytes}
+use Rattle.tables.specs.Table.{Cells, lineOf, tableOf}
 use Rattle.tables.specs.Table.Cells.{cells, bad}
 use Rattle.chart.specs.Tables.{unsignedAll}
 use Rattle.checks.specs.Checks.{tablesRefusal, Loaded, told}
-use Rattle.reading.specs.declared.Head.{Head}
-use Rattle.reading.specs.declared.Head.the-variants.{Refused, Counts}
-use Rattle.reading.specs.Reading.{pickHead, headLine, headLength, headOf, fileLength, Body, pickBody, three, bodyOf, saidBody, loadBody, loadOf}
-use Rattle.reading.specs.Reading.Body.{body, malformed}
+use Rattle.reading.specs.declared.Head.the-variants.{Refused}
+use Rattle.reading.specs.Reading.{pickHead, headLine, headOf, fileLength, three, bodyOf, saidBody, loadBody, loadOf}
+use Rattle.reading.specs.Reading.Body.{malformed}
 
 -- ---- line 1
 pub head-short : (s : List ℕ) → length s < 25 → headOf s ≡ Refused 3
@@ -54,7 +52,4 @@ load-refused v e f s (suc r) a b c x y z n h = ap loadBody h
 pub load-tables : (v e f : ℕ) (s : List ℕ) (r : ℕ) (a b c : List ℤ) (l : Loaded) → r ≡ 0 → bodyOf v e f s ≡ saidBody r a b c → told (tablesRefusal a b c) a (unsignedAll b) (unsignedAll c) ≡ l → loadOf v e f s ≡ l
 unfolding loadOf
 load-tables v e f s zero a b c l n h t = ap loadBody h ∙ t
-load-tables v e f s (suc r) a b c l n h t = let z : _≡_ {A = ℕ} 0 1 = cc in absurd (zero-one z)
-  where
-    zero-one : _≡_ {A = ℕ} 0 1 → ⊥
-    zero-one e = omega arith
+load-tables v e f s (suc r) a b c l n h t = let o : ⊥ = omega arith in absurd o

@@ -1,6 +1,6 @@
 -- 01, "Chart text" and the rows of chart text, 3, 4, 5: what a chart's bytes hold, and the first refusal that meets them.
 use Prim.Native.Nat.{ℕ, zero, suc, _+_, _*_}
-use mathlib.Core.List.{List, [], _∷_}
+use mathlib.Core.List.{List}
 use mathlib.Core.Bool.{Bool, true, false}
 use lib.ListN.{length, drop, getD}
 use lib.Dec.{ltb, eqb}

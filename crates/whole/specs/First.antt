@@ -1,15 +1,14 @@
 -- The lowest number below n of which a test holds, or n where there is none: what a scan from the front finds.
--- A loop's invariant is `first p n ≡ from p i (n - i)`: `from-hit` at a hit, `from-miss` after a turn, `from-end` at the end. Assumes nothing.
-use mathlib.Core.Path.{_≡_, refl, sym, ap, subst, _∙_}
+-- A scan's invariant is that no number before i passes: `some-at` at a hit, `some-none` at the end. Assumes nothing.
+use mathlib.Core.Path.{_≡_, refl, sym, subst, _∙_}
 use mathlib.Core.Bool.{Bool, true, false, false≢true}
 use Prim.Native.Nat.{ℕ, zero, suc, _+_, _-_, _≤_, _<_, zero-le}
-use native.Mathlib.Nat.{lt-of-lt-of-le, sub-zero, le-refl, lt-irrefl, not-le-of-lt, eq-or-lt-of-le, add-suc, suc-add, add-zero, zero-add}
+use native.Mathlib.Nat.{lt-of-lt-of-le, le-refl, lt-irrefl, not-le-of-lt, eq-or-lt-of-le, add-suc, suc-add, add-zero, zero-add}
 use mathlib.Core.Logic.{⊎-elim}
 use lib.Dec.{ltb}
 use borrow.Author.Tests.{ltb-true, ltb-false}
 use borrow.Author.Count.{below-more}
 use Rattle.whole.specs.Bools.{is-false}
-use native.Mathlib.Numerals.{add-one}
 use native.Mathlib.Omega.{arith}
 
 -- from i on, among the next k numbers
@@ -17,41 +16,31 @@ unfoldable pub from : (ℕ → Bool) → ℕ → ℕ → ℕ
 from p i zero = i
 from p i (suc k) = elim (p i) [ true ↦ i | false ↦ from p (suc i) k ]
 
+-- from 0 on, among the numbers below n
 abbrev pub first : (ℕ → Bool) → ℕ → ℕ
 first p n = from p 0 n
 
+-- a hit at i
 from-true : (p : ℕ → Bool) (i k : ℕ) → p i ≡ true → from p i (suc k) ≡ i
 unfolding from
 from-true p i k e = rw (e, from) refl
 
+-- a miss at i
 from-false : (p : ℕ → Bool) (i k : ℕ) → p i ≡ false → from p i (suc k) ≡ from p (suc i) k
 unfolding from
 from-false p i k e = rw (e, from) refl
 
-pub first-from : (p : ℕ → Bool) (n : ℕ) → first p n ≡ from p 0 (n - 0)
-first-from p n = rw sub-zero
-
-pub from-hit : (p : ℕ → Bool) (i n : ℕ) → i < n → p i ≡ true → from p i (n - i) ≡ i
-from-hit p i n h e =
-    let s : n - i ≡ suc (n - suc i) = omega arith in ap (λ (k : ℕ). from p i k) s ∙ from-true p i (n - suc i) e
-
-pub from-miss : (p : ℕ → Bool) (i n : ℕ) → i < n → p i ≡ false → from p i (n - i) ≡ from p (i + 1) (n - (i + 1))
-from-miss p i n h e =
-    let s : n - i ≡ suc (n - suc i) = omega arith in
-    ap (λ (k : ℕ). from p i k) s ∙ from-false p i (n - suc i) e ∙ ap (λ (j : ℕ). from p j (n - j)) (sym (add-one i))
-
+-- no number left
 from-nil : (p : ℕ → Bool) (i : ℕ) → from p i zero ≡ i
 unfolding from
 from-nil p i = refl
-
-pub from-end : (p : ℕ → Bool) (i n : ℕ) → n ≤ i → from p i (n - i) ≡ i
-from-end p i n h = let z : n - i ≡ zero = omega arith in ap (λ (k : ℕ). from p i k) z ∙ from-nil p i
 
 -- ---- what the number found says
 from-split : (p : ℕ → Bool) (i k : ℕ) (b : Bool) → p i ≡ b → (P : ℕ → Type 0) → (b ≡ true → P i) → (b ≡ false → P (from p (suc i) k)) → P (from p i (suc k))
 from-split p i k true e P hit miss = subst P (sym (from-true p i k e)) (hit refl)
 from-split p i k false e P hit miss = subst P (sym (from-false p i k e)) (miss refl)
 
+-- what is found is not before i
 from-ge : (p : ℕ → Bool) (i m : ℕ) → i ≤ from p i m
 from-ge p i zero = subst (λ (r : ℕ). i ≤ r) (sym (from-nil p i)) (le-refl i)
 from-ge p i (suc m) =
@@ -74,9 +63,11 @@ from-found p i (suc m) h =
     from-split p i m (p i) refl (λ (r : ℕ). r < i + suc m → p r ≡ true) (λ e g. e)
     (λ e g. from-found p (suc i) m (subst (λ (n : ℕ). from p (suc i) m < n) (add-suc i m ∙ sym (suc-add i m)) g)) h
 
+-- nothing before what is found passes
 pub first-before : (p : ℕ → Bool) (n k : ℕ) → k < first p n → p k ≡ false
 first-before p n k h = from-before p 0 n k zero-le h
 
+-- what is found below n passes
 pub first-found : (p : ℕ → Bool) (n : ℕ) → first p n < n → p (first p n) ≡ true
 first-found p n h = from-found p 0 n (subst (λ (k : ℕ). first p n < k) (sym (zero-add n)) h)
 
@@ -96,6 +87,7 @@ some-at p n i l e = choose (some p n) refl
     choose true h = h
     choose false h = absurd (false≢true (sym (none-at p n h i l) ∙ e))
 
+-- where none below n passes, nothing is found
 pub some-none : (p : ℕ → Bool) (n : ℕ) → ((k : ℕ) → k < n → p k ≡ false) → some p n ≡ false
 some-none p n h = is-false (some p n) (λ e. let l = ltb-true (first p n) n e in false≢true (sym (h (first p n) l) ∙ first-found p n l))
 

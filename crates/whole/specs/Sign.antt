@@ -3,7 +3,7 @@
 use mathlib.Core.Path.{_≡_, refl, sym, subst, ap, _∙_}
 use mathlib.Core.Logic.{_⊎_, inl, inr}
 use mathlib.Core.Bool.{Bool, true, false}
-use Prim.Native.Nat.{ℕ, zero, suc, _+_, _*_, _<_, _≤_, zero-le}
+use Prim.Native.Nat.{ℕ, zero, suc, _+_, _*_, _<_, zero-le}
 use native.Mathlib.Nat.{mul-pos}
 use native.Mathlib.Omega.{arith}
 use lib.Dec.{T, ltb, ltb→lt, lt→ltb, le→leb}
@@ -18,9 +18,11 @@ pub record Above (z : ℤ) : Type 0 where
 pub record AtLeast (z : ℤ) : Type 0 where
   pub is : T (leZ (pos 0) z)
 
+-- a natural number above 0
 nat-above : (n : ℕ) → 0 < n → Above (pos n)
 nat-above n h = record { is = lt→ltb 0 n h }
 
+-- a sum of two above 0
 pub above-add : {a b : ℤ} → Above a → Above b → Above (a +ℤ b)
 above-add {a = pos a} {b = pos b} h k =
     let x = ltb→lt 0 a (h .is) in
@@ -29,30 +31,36 @@ above-add {a = pos a} {b = pos b} h k =
 above-add {a = pos a} {b = negsuc b} h k = absurd (k .is)
 above-add {a = negsuc a} {b = b} h k = absurd (h .is)
 
+-- a product of two above 0
 pub above-mul : {a b : ℤ} → Above a → Above b → Above (a *ℤ b)
 above-mul {a = pos a} {b = pos b} h k = nat-above (a * b) (mul-pos (ltb→lt 0 a (h .is)) (ltb→lt 0 b (k .is)))
 above-mul {a = pos a} {b = negsuc b} h k = absurd (k .is)
 above-mul {a = negsuc a} {b = b} h k = absurd (h .is)
 
+-- a sum of one above and one not below 0
 pub above-atleast : {a b : ℤ} → Above a → AtLeast b → Above (a +ℤ b)
 above-atleast {a = pos a} {b = pos b} h k = let x = ltb→lt 0 a (h .is) in nat-above (a + b) (omega arith)
 above-atleast {a = pos a} {b = negsuc b} h k = absurd (k .is)
 above-atleast {a = negsuc a} {b = b} h k = absurd (h .is)
 
+-- a sum of two not below 0
 pub atleast-add : {a b : ℤ} → AtLeast a → AtLeast b → AtLeast (a +ℤ b)
 atleast-add {a = pos a} {b = pos b} h k = record { is = le→leb 0 (a + b) zero-le }
 atleast-add {a = pos a} {b = negsuc b} h k = absurd (k .is)
 atleast-add {a = negsuc a} {b = b} h k = absurd (h .is)
 
+-- a square is not below 0
 pub square : (z : ℤ) → AtLeast (z *ℤ z)
 square (pos n) = record { is = le→leb 0 (n * n) zero-le }
 square (negsuc n) = record { is = le→leb 0 (suc n * suc n) zero-le }
 
+-- a number and its negation are not both above 0
 pub not-both : {z : ℤ} → Above z → Above (negℤ z) → ⊥
 not-both {z = pos zero} h k = h .is
 not-both {z = pos (suc n)} h k = k .is
 not-both {z = negsuc n} h k = h .is
 
+-- 0 is not above 0
 pub not-zero : {z : ℤ} → Above z → z ≡ pos 0 → ⊥
 not-zero h e = subst (λ (x : ℤ). T (ltZ (pos 0) x)) e (h .is)
 
@@ -92,6 +100,7 @@ both-above a b p s = pick (signs a) (signs b)
 pub test-above : {z : ℤ} → ltZ (pos 0) z ≡ true → Above z
 test-above {z} e = record { is = subst T (sym e) tt }
 
+-- and the test of what is above 0
 pub above-test : {z : ℤ} → Above z → ltZ (pos 0) z ≡ true
 above-test {z} h = is-true (ltZ (pos 0) z) (h .is)
   where

@@ -1,5 +1,5 @@
 -- `checks::chart_refusal` meets its contract: each number is tested over the whole chart before the next. Assumes nothing.
-use mathlib.Core.Path.{_≡_, sym, _∙_}
+use mathlib.Core.Path.{sym, _∙_}
 use Rattle.checks.specs.Checks.{chartRefusal}
 use borrow.Author.Needs.{needs}
 use Rattle.checks.proofs.chart_refusal.Statement.{statement}

@@ -1,5 +1,5 @@
 -- `checks::tables_refusal` meets its contract: what 6 lets pass is in range, so 7 to 11 can be tested. Assumes nothing.
-use mathlib.Core.Path.{_≡_, sym, ap, _∙_}
+use mathlib.Core.Path.{sym, _∙_}
 use Rattle.ranges.specs.Passed.{in-range}
 use Rattle.checks.specs.Checks.{tablesRefusal}
 use borrow.Author.Needs.{needs}

@@ -1,5 +1,4 @@
 -- `delaunay::is_not_left` meets its contract: the corners are those of the definition. Assumes nothing.
-use mathlib.Core.Path.{_≡_, sym, _∙_}
 use Prim.Native.Nat.{_≤_, _<_}
 use native.Mathlib.Omega.{arith}
 use borrow.Author.Tests.{lt-ltb, le-ltb}

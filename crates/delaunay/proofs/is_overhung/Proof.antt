@@ -1,5 +1,5 @@
 -- `delaunay::is_overhung` meets its contract: the ends are those of the definition. Assumes nothing.
-use mathlib.Core.Path.{_≡_, sym, _∙_}
+use mathlib.Core.Path.{sym, _∙_}
 use native.Mathlib.Omega.{arith}
 use borrow.Author.Tests.{eq-eqb, ne-eqb}
 use Rattle.chart.specs.Chart.{partner-in}

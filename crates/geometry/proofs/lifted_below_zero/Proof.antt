@@ -1,152 +1,109 @@
--- `geometry::lifted_below_zero` meets its contract: no step overflows on this grid. Assumes nothing.
-use mathlib.Core.Path.{_≡_}
-use Prim.Native.Nat.{_*_}
-use lib.IntN.{ℤ, _*ℤ_}
+-- `geometry::lifted_below_zero` meets its contract: no step overflows on this grid, and the sum is the determinant by powers of the first vector's coordinates. Assumes nothing.
+use mathlib.Core.Path.{_≡_, sym, ap}
+use Prim.Native.Nat.{_+_, _*_}
+use lib.IntN.{ℤ, pos, _+ℤ_, _-ℤ_, _*ℤ_}
+use lib.Signed.{ltZ}
+use Rattle.whole.specs.Bound.{Within, add-in, same-in, fits, back, held}
+use Rattle.geometry.specs.Plane.{Step, Area, Minor, norm2Of, crossOf, lifted, norm2-in, cross-in, minor-in, horner-in}
+use Rattle.geometry.specs.Laws.{lifted-horner}
 use borrow.Author.Needs.{needs}
-use Rattle.whole.specs.Bound.{Within, add-in, sub-in, mul-in, same-in, fits, back}
-use Rattle.geometry.specs.declared.Place.{Place}
-use Rattle.geometry.specs.Plane.{Area, Near, norm2Of, crossOf, lifted, norm2-in, cross-in}
 use Rattle.geometry.proofs.lifted_below_zero.Statement.{statement}
 use Rattle.geometry.proofs.lifted_below_zero.Tie as tie
 
--- the bounds of a squared length, of a cross product and of their product
-record Minor (n x : ℤ) : Type 0 where
-  length : Within Area n
-  product : Within Area x
-  both : Within (Area * Area) (n *ℤ x)
+-- ---- what the minors and the two halves of the sum are, and their bounds
+e-is : (c : tie.After-minor) → c .minor .result ≡ norm2Of (c .before .before .before .before .before .before .args .w) *ℤ c .before .before .before .before .before .before .args .v .y -ℤ norm2Of (c .before .before .before .before .before .before .args .v) *ℤ c .before .before .before .before .before .before .args .w .y
+e-is c =
+    let p = c .before .before .before .before .before .before .pre .1 in
+    let s = same-in (c .before .before .before .before .norm2 .ensures) (norm2-in (p .0)) in
+    let t = same-in (c .before .before .before .norm22 .ensures) (norm2-in (p .1)) in
+    rw (c .before .before .before .before .norm2 .ensures, c .before .before .before .norm22 .ensures) at (simp (back s tt, back t tt, back (p .1 .y-in) tt, back (p .0 .y-in) tt) at (c .minor .ensures))
 
--- as the calls return them
-minor : {u v w : Place} {n x : ℤ} → Near u → Near v → Near w → n ≡ norm2Of u → x ≡ crossOf v w → Minor n x
-minor u v w e d =
-    let n = same-in e (norm2-in u) in
-    let x = same-in d (cross-in v w) in
-    record { length = n; product = x; both = mul-in n x }
+e-in : (c : tie.After-minor) → Within Minor (c .minor .result)
+e-in c = let p = c .before .before .before .before .before .before .pre .1 in same-in (e-is c) (minor-in (norm2-in (p .0)) (p .1 .y-in) (norm2-in (p .1)) (p .0 .y-in))
 
-norm2-requires : tie.Need-norm2-requires
-norm2-requires c κs = search needs
+f-is : (c : tie.After-minor2) → c .minor2 .result ≡ norm2Of (c .before .before .before .before .before .before .before .before .before .args .v) *ℤ c .before .before .before .before .before .before .before .before .before .args .w .x -ℤ norm2Of (c .before .before .before .before .before .before .before .before .before .args .w) *ℤ c .before .before .before .before .before .before .before .before .before .args .v .x
+f-is c =
+    let p = c .before .before .before .before .before .before .before .before .before .pre .1 in
+    let s = same-in (c .before .before .before .before .before .before .before .norm2 .ensures) (norm2-in (p .0)) in
+    let t = same-in (c .before .before .before .before .before .before .norm22 .ensures) (norm2-in (p .1)) in
+    rw (c .before .before .before .before .before .before .before .norm2 .ensures, c .before .before .before .before .before .before .norm22 .ensures) at (simp (back s tt, back t tt, back (p .1 .x-in) tt, back (p .0 .x-in) tt) at (c .minor2 .ensures))
+
+f-in : (c : tie.After-minor2) → Within Minor (c .minor2 .result)
+f-in c = let p = c .before .before .before .before .before .before .before .before .before .pre .1 in same-in (f-is c) (minor-in (norm2-in (p .1)) (p .0 .x-in) (norm2-in (p .0)) (p .1 .x-in))
+
+x-is : (c : tie.After-horner) → c .horner .result ≡ c .before .before .before .before .before .before .before .before .before .before .before .args .u .x *ℤ (crossOf (c .before .before .before .before .before .before .before .before .before .before .before .args .v) (c .before .before .before .before .before .before .before .before .before .before .before .args .w) *ℤ c .before .before .before .before .before .before .before .before .before .before .before .args .u .x +ℤ (norm2Of (c .before .before .before .before .before .before .before .before .before .before .before .args .w) *ℤ c .before .before .before .before .before .before .before .before .before .before .before .args .v .y -ℤ norm2Of (c .before .before .before .before .before .before .before .before .before .before .before .args .v) *ℤ c .before .before .before .before .before .before .before .before .before .before .before .args .w .y))
+x-is c =
+    let p = c .before .before .before .before .before .before .before .before .before .before .before .pre in
+    let d = same-in (c .before .before .before .before .before .before .before .before .before .before .cross .ensures) (cross-in (p .1 .0) (p .1 .1)) in
+    rw (c .before .before .before .before .before .before .before .before .before .before .cross .ensures, e-is (c .before .before .before .before .before)) at (simp (back d tt, back (p .0 .x-in) tt, back (e-in (c .before .before .before .before .before)) tt) at (c .horner .ensures))
+
+x-in : (c : tie.After-horner) → Within (Step * (Area * Step + Minor)) (c .horner .result)
+x-in c = let p = c .before .before .before .before .before .before .before .before .before .before .before .pre in same-in (x-is c) (horner-in (cross-in (p .1 .0) (p .1 .1)) (p .0 .x-in) (same-in (sym (e-is (c .before .before .before .before .before))) (e-in (c .before .before .before .before .before))))
+
+y-is : (c : tie.After-horner2) → c .horner2 .result ≡ c .before .before .before .before .before .before .before .before .before .before .before .before .before .args .u .y *ℤ (crossOf (c .before .before .before .before .before .before .before .before .before .before .before .before .before .args .v) (c .before .before .before .before .before .before .before .before .before .before .before .before .before .args .w) *ℤ c .before .before .before .before .before .before .before .before .before .before .before .before .before .args .u .y +ℤ (norm2Of (c .before .before .before .before .before .before .before .before .before .before .before .before .before .args .v) *ℤ c .before .before .before .before .before .before .before .before .before .before .before .before .before .args .w .x -ℤ norm2Of (c .before .before .before .before .before .before .before .before .before .before .before .before .before .args .w) *ℤ c .before .before .before .before .before .before .before .before .before .before .before .before .before .args .v .x))
+y-is c =
+    let p = c .before .before .before .before .before .before .before .before .before .before .before .before .before .pre in
+    let d = same-in (c .before .before .before .before .before .before .before .before .before .before .before .before .cross .ensures) (cross-in (p .1 .0) (p .1 .1)) in
+    rw (c .before .before .before .before .before .before .before .before .before .before .before .before .cross .ensures, f-is (c .before .before .before .before)) at (simp (back d tt, back (p .0 .y-in) tt, back (f-in (c .before .before .before .before)) tt) at (c .horner2 .ensures))
+
+y-in : (c : tie.After-horner2) → Within (Step * (Area * Step + Minor)) (c .horner2 .result)
+y-in c = let p = c .before .before .before .before .before .before .before .before .before .before .before .before .before .pre in same-in (y-is c) (horner-in (cross-in (p .1 .0) (p .1 .1)) (p .0 .y-in) (same-in (sym (f-is (c .before .before .before .before))) (f-in (c .before .before .before .before))))
 
 cross-requires : tie.Need-cross-requires
 cross-requires c κs = search needs
 
-mul-a : tie.Need-mul-a
-mul-a c =
-    let s = c .before .before in
-    let m = minor (s .pre .0) (s .pre .1 .0) (s .pre .1 .1) (c .before .norm2 .ensures) (c .cross .ensures) in
-    simp (back (m .length) tt, back (m .product) tt) (fits (m .both) tt)
+norm2-requires : tie.Need-norm2-requires
+norm2-requires c κs = search needs
 
 norm2-requires-2 : tie.Need-norm2-requires-2
 norm2-requires-2 c κs = search needs
 
-cross-requires-2 : tie.Need-cross-requires-2
-cross-requires-2 c κs = search needs
+minor-requires : tie.Need-minor-requires
+minor-requires c κs =
+    let p = c .before .before .before .before .before .pre .1 in
+    let s = same-in (c .before .before .before .norm2 .ensures) (norm2-in (p .0)) in
+    let t = same-in (c .before .before .norm22 .ensures) (norm2-in (p .1)) in
+    (held s tt, (held (p .1 .y-in) tt, (held t tt, held (p .0 .y-in) tt)))
 
-mul-b : tie.Need-mul-b
-mul-b c =
-    let s = c .before .before .before .before in
-    let m = minor (s .pre .1 .0) (s .pre .0) (s .pre .1 .1) (c .before .norm22 .ensures) (c .cross2 .ensures) in
-    simp (back (m .length) tt, back (m .product) tt) (fits (m .both) tt)
+minor-requires-2 : tie.Need-minor-requires-2
+minor-requires-2 c κs =
+    let p = c .before .before .before .before .before .before .before .before .pre .1 in
+    let s = same-in (c .before .before .before .before .before .before .norm2 .ensures) (norm2-in (p .0)) in
+    let t = same-in (c .before .before .before .before .before .norm22 .ensures) (norm2-in (p .1)) in
+    (held t tt, (held (p .0 .x-in) tt, (held s tt, held (p .1 .x-in) tt)))
 
-norm2-requires-3 : tie.Need-norm2-requires-3
-norm2-requires-3 c κs = search needs
+horner-requires : tie.Need-horner-requires
+horner-requires c κs =
+    let p = c .before .before .before .before .before .before .before .before .before .before .pre in
+    let d = same-in (c .before .before .before .before .before .before .before .before .before .cross .ensures) (cross-in (p .1 .0) (p .1 .1)) in
+    (held d tt, (held (p .0 .x-in) tt, held (e-in (c .before .before .before .before)) tt))
 
-cross-requires-3 : tie.Need-cross-requires-3
-cross-requires-3 c κs = search needs
-
-mul-c : tie.Need-mul-c
-mul-c c =
-    let s = c .before .before .before .before .before .before in
-    let m = minor (s .pre .1 .1) (s .pre .0) (s .pre .1 .0) (c .before .norm23 .ensures) (c .cross3 .ensures) in
-    simp (back (m .length) tt, back (m .product) tt) (fits (m .both) tt)
-
--- the three products
-record Minors (c : tie.After-cross3) : Type 0 where
-  a : Minor (c .before .before .before .before .before .norm2 .result) (c .before .before .before .before .cross .result)
-  b : Minor (c .before .before .before .norm22 .result) (c .before .before .cross2 .result)
-  d : Minor (c .before .norm23 .result) (c .cross3 .result)
-
-all : (c : tie.After-cross3) → Minors c
-all c =
-    let s = c .before .before .before .before .before .before in
-    let u = s .pre .0 in
-    let v = s .pre .1 .0 in
-    let w = s .pre .1 .1 in
-    record {
-      a = minor u v w (c .before .before .before .before .before .norm2 .ensures) (c .before .before .before .before .cross .ensures);
-      b = minor v u w (c .before .before .before .norm22 .ensures) (c .before .before .cross2 .ensures);
-      d = minor w u v (c .before .norm23 .ensures) (c .cross3 .ensures);
-    }
-
-sub-result : tie.Need-sub-result
-sub-result c =
-    let m = all c in
-    simp (
-      back (m .a .length) tt,
-      back (m .a .product) tt,
-      back (m .b .length) tt,
-      back (m .b .product) tt,
-      back (m .a .both) tt,
-      back (m .b .both) tt,
-    )
-    (fits (sub-in (m .a .both) (m .b .both)) tt)
+horner-requires-2 : tie.Need-horner-requires-2
+horner-requires-2 c κs =
+    let p = c .before .before .before .before .before .before .before .before .before .before .before .before .pre in
+    let d = same-in (c .before .before .before .before .before .before .before .before .before .before .before .cross .ensures) (cross-in (p .1 .0) (p .1 .1)) in
+    (held d tt, (held (p .0 .y-in) tt, held (f-in (c .before .before .before)) tt))
 
 add-result : tie.Need-add-result
-add-result c =
-    let m = all c in
-    let f = sub-in (m .a .both) (m .b .both) in
-    simp (
-      back (m .a .length) tt,
-      back (m .a .product) tt,
-      back (m .b .length) tt,
-      back (m .b .product) tt,
-      back (m .d .length) tt,
-      back (m .d .product) tt,
-      back (m .a .both) tt,
-      back (m .b .both) tt,
-      back (m .d .both) tt,
-      back f tt,
-    )
-    (fits (add-in f (m .d .both)) tt)
+add-result c = simp (back (x-in (c .before .before)) tt, back (y-in c) tt) (fits (add-in (x-in (c .before .before)) (y-in c)) tt)
 
 returns : tie.Need-returns
-unfolding lifted
 returns c =
-    let m = all c in
-    let f = sub-in (m .a .both) (m .b .both) in
-    simp (
-      back (m .a .length) tt,
-      back (m .a .product) tt,
-      back (m .b .length) tt,
-      back (m .b .product) tt,
-      back (m .d .length) tt,
-      back (m .d .product) tt,
-      back (m .a .both) tt,
-      back (m .b .both) tt,
-      back (m .d .both) tt,
-      back f tt,
-      back (add-in f (m .d .both)) tt,
-    )
-    (simp (
-      c .before .before .before .before .before .norm2 .ensures,
-      c .before .before .before .before .cross .ensures,
-      c .before .before .before .norm22 .ensures,
-      c .before .before .cross2 .ensures,
-      c .before .norm23 .ensures,
-      c .cross3 .ensures,
-    ))
+    let a = c .before .before .before .before .before .before .before .before .before .before .before .before .before .args in
+    let e : c .before .before .horner .result +ℤ c .horner2 .result ≡ lifted (a .u) (a .v) (a .w) = rw (x-is (c .before .before), y-is c) (lifted-horner (a .u) (a .v) (a .w)) in
+    simp (back (x-in (c .before .before)) tt, back (y-in c) tt, back (add-in (x-in (c .before .before)) (y-in c)) tt)
+    (ap (λ (z : ℤ). ltZ z (pos 0)) e)
 
 pub lifted-below-zero-spec : {M : Type 1} → statement M
 lifted-below-zero-spec =
     tie.close
     (tie.spec
-    norm2-requires
     cross-requires
-    mul-a
+    norm2-requires
     norm2-requires-2
-    cross-requires-2
-    mul-b
-    norm2-requires-3
-    cross-requires-3
-    mul-c
-    sub-result
+    minor-requires
+    minor-requires-2
+    horner-requires
+    horner-requires-2
     add-result
     returns)

@@ -1,5 +1,4 @@
 -- `links::ends_differ` meets its contract: what each number leads to is in range. Assumes nothing.
-use mathlib.Core.Path.{_≡_, sym, _∙_}
 use native.Mathlib.Omega.{arith}
 use Rattle.chart.specs.Chart.{partner-in}
 use borrow.Author.Needs.{needs}

@@ -1,5 +1,5 @@
 -- `links::is_linked` meets its contract: each clause as it was found. Assumes nothing.
-use mathlib.Core.Path.{_≡_, sym, _∙_}
+use mathlib.Core.Path.{sym, _∙_}
 use borrow.Author.Tests.{not-true, not-false}
 use Rattle.links.specs.Links.{linked}
 use borrow.Author.Needs.{needs}

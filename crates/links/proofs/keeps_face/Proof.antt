@@ -1,5 +1,4 @@
 -- `links::keeps_face` meets its contract: what each number leads to is in range. Assumes nothing.
-use mathlib.Core.Path.{_≡_, sym, _∙_}
 use native.Mathlib.Omega.{arith}
 use borrow.Author.Needs.{needs}
 use Rattle.links.proofs.keeps_face.Statement.{statement}

@@ -1,5 +1,5 @@
 -- `links::links_broken` meets its contract: the scans, one after the other. Assumes nothing.
-use mathlib.Core.Path.{_≡_, sym, _∙_}
+use mathlib.Core.Path.{sym, _∙_}
 use Rattle.links.specs.Links.{linksBroken}
 use borrow.Author.Needs.{needs}
 use Rattle.links.proofs.links_broken.Statement.{statement}

@@ -1,5 +1,4 @@
 -- `links::next_prev` meets its contract: what each number leads to is in range. Assumes nothing.
-use mathlib.Core.Path.{_≡_, sym, _∙_}
 use native.Mathlib.Omega.{arith}
 use borrow.Author.Needs.{needs}
 use Rattle.links.proofs.next_prev.Statement.{statement}

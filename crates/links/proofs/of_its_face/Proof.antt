@@ -1,6 +1,6 @@
 -- `links::of_its_face` meets its contract: what each number leads to is in range. Assumes nothing.
 use mathlib.Core.Path.{_≡_, sym, ap, _∙_}
-use mathlib.Core.Bool.{true, false}
+use mathlib.Core.Bool.{false}
 use native.Mathlib.Omega.{arith}
 use Prim.Native.Nat.{_<_}
 use lib.Dec.{eqb}

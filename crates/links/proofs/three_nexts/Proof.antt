@@ -1,5 +1,5 @@
 -- `links::three_nexts` meets its contract: what each number leads to is in range. Assumes nothing.
-use mathlib.Core.Path.{_≡_, sym, _∙_}
+use mathlib.Core.Path.{sym, _∙_}
 use native.Mathlib.Omega.{arith}
 use Prim.Native.Nat.{_<_}
 use borrow.Author.Tests.{eq-eqb, ne-eqb}

@@ -1,14 +1,12 @@
 -- `ranges::counts_refused` meets its contract: the count of half-edges that is in its range is no negative number. Assumes nothing.
 use mathlib.Core.Path.{_≡_, refl, sym, _∙_}
 use mathlib.Core.Bool.{Bool, true, false, _||_, false≢true}
-use Prim.Native.Nat.{ℕ, _%_}
-use lib.Dec.{T, eqb}
-use lib.IntN.{ℤ, pos, negsuc, natAbs}
-use lib.Signed.{ltZ, nonNeg}
+use lib.Dec.{T}
+use lib.IntN.{ℤ, pos, negsuc}
+use lib.Signed.{nonNeg}
 use mir.Syntax.{w64}
 use mir.Facts.{toZ-ofZ, fits-natAbs}
 use borrow.Author.Tests.{eq-eqb, ne-eqb}
-use Rattle.whole.specs.Bools.{or-false}
 use Rattle.whole.specs.Bound.{outside}
 use Rattle.ranges.specs.Ranges.{countsRefused}
 use borrow.Author.Needs.{needs}

@@ -1,5 +1,5 @@
 -- `ranges::is_bad_half_edge` meets its contract: each test as it was found. Assumes nothing.
-use mathlib.Core.Path.{_≡_, sym, _∙_}
+use mathlib.Core.Path.{sym, _∙_}
 use Rattle.ranges.specs.Ranges.{badHalfEdge}
 use borrow.Author.Needs.{needs}
 use Rattle.ranges.proofs.is_bad_half_edge.Statement.{statement}

@@ -1,5 +1,5 @@
 -- `ranges::is_bad_vertex` meets its contract: each test as it was found. Assumes nothing.
-use mathlib.Core.Path.{_≡_, sym, ap, _∙_}
+use mathlib.Core.Path.{sym, ap, _∙_}
 use Rattle.geometry.specs.Plane.{offGrid}
 use Rattle.ranges.specs.Ranges.{badVertex}
 use borrow.Author.Needs.{needs}

@@ -1,8 +1,7 @@
 -- `ranges::is_not_below` meets its contract. Assumes nothing.
 use mathlib.Core.Path.{_≡_, refl, sym, _∙_}
-use mathlib.Core.Bool.{Bool, true, false, not, false≢true, _||_}
+use mathlib.Core.Bool.{Bool, true, false, not, false≢true}
 use Prim.Native.Nat.{ℕ, zero-le}
-use native.Mathlib.Omega.{arith}
 use lib.Dec.{leb, ltb}
 use lib.IntN.{ℤ, pos, negsuc}
 use lib.Signed.{ltZ}

@@ -1,5 +1,5 @@
 -- `ranges::out_of_range` meets its contract: the scans, one after the other. Assumes nothing.
-use mathlib.Core.Path.{_≡_, sym, _∙_}
+use mathlib.Core.Path.{sym, _∙_}
 use Rattle.ranges.specs.Ranges.{outOfRange}
 use borrow.Author.Needs.{needs}
 use Rattle.ranges.proofs.out_of_range.Statement.{statement}

@@ -1,5 +1,5 @@
 -- `reading::counts` meets its contract. Assumes nothing.
-use mathlib.Core.Path.{_≡_, sym, _∙_}
+use mathlib.Core.Path.{sym, _∙_}
 use mir.Facts.{toZ-ofZ}
 use Rattle.reading.specs.Reading.{countsOf}
 use borrow.Author.Needs.{needs}

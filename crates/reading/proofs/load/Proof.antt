@@ -1,12 +1,11 @@
 -- `reading::load` meets its contract: the body is read into room of the call's own, and what 6 lets pass is taken over. Assumes nothing.
-use Prim.Native.Nat.{ℕ, _+_, _*_, _/_, _%_, _≤_, _<_}
-use mathlib.Core.Path.{_≡_, refl, sym, ap, subst, _∙_}
+use Prim.Native.Nat.{ℕ, _+_, _*_, _/_, _%_, _≤_}
+use mathlib.Core.Path.{_≡_, sym, ap, _∙_}
 use mathlib.Core.List.{List, _++_}
 use native.Mathlib.Nat.{one-mul}
 use native.Mathlib.Omega.{arith}
 use lib.ListN.{length, take, drop}
 use lib.Seq.{length-take-le, take-at}
-use lib.IntN.{ℤ}
 use Rattle.checks.specs.Checks.{told}
 use Rattle.reading.specs.Reading.{bodyOf, saidBody}
 use Rattle.reading.proofs.Laws.{load-refused, load-tables}

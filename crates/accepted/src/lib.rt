@@ -1,0 +1,1 @@
+// Theorems about accepted charts: everything is in specs/.

@@ -1,0 +1,52 @@
+-- `folder::cases` is safe and ends: the measure is the number of arguments left.
+use Prim.Native.Nat.{_-_}
+use mathlib.Core.Path.{_≡_, refl}
+use lib.ListN.{length}
+use borrow.Author.Needs.{needs}
+use Rattle.answers.proofs.folder.cases.Statement.{statement}
+use Rattle.answers.proofs.folder.cases.Tie as tie
+
+abbrev Inv-loop : tie.InvT-loop
+Inv-loop space₀ count i₀ space i = length space ≡ length space₀
+
+abbrev μ-loop : tie.MeasureT-loop
+μ-loop space₀ count i₀ space i = count - i
+
+arg-count-requires : tie.Need-arg-count-requires Inv-loop μ-loop
+arg-count-requires c κs = tt
+
+loop-holds : tie.Need-loop-holds Inv-loop μ-loop
+loop-holds c = refl
+
+case-requires : tie.Need-case-requires Inv-loop μ-loop
+case-requires c κs = tt
+
+add-i : tie.Need-add-i Inv-loop μ-loop
+add-i c = search needs
+
+loop-less : tie.Need-loop-less Inv-loop μ-loop
+loop-less c = search needs
+
+loop-again : tie.Need-loop-again Inv-loop μ-loop
+loop-again c = search needs
+
+same-length : tie.Need-same-length Inv-loop μ-loop
+same-length c = search needs
+
+returns : tie.Need-returns Inv-loop μ-loop
+returns c = tt
+
+pub cases-spec : {M : Type 1} → statement M
+cases-spec =
+    tie.close
+    (tie.spec
+    Inv-loop
+    μ-loop
+    arg-count-requires
+    loop-holds
+    case-requires
+    add-i
+    loop-less
+    loop-again
+    same-length
+    returns)

@@ -1,0 +1,55 @@
+-- `packed::cases` is safe and ends: the measure is the number of turns left.
+use mathlib.Core.Path.{_≡_, refl}
+use lib.ListN.{length}
+use borrow.Author.Needs.{needs}
+use Rattle.answers.proofs.packed.cases.Statement.{statement}
+use Rattle.answers.proofs.packed.cases.Tie as tie
+
+abbrev Inv-loop : tie.InvT-loop
+Inv-loop space₀ turns₀ space turns = length space ≡ length space₀
+
+abbrev μ-loop : tie.MeasureT-loop
+μ-loop space₀ turns₀ space turns = turns
+
+loop-holds : tie.Need-loop-holds Inv-loop μ-loop
+loop-holds c = refl
+
+next-case-requires : tie.Need-next-case-requires Inv-loop μ-loop
+next-case-requires c κs = tt
+
+sub-turns : tie.Need-sub-turns Inv-loop μ-loop
+sub-turns c = search needs
+
+loop-less : tie.Need-loop-less Inv-loop μ-loop
+loop-less c = search needs
+
+loop-again : tie.Need-loop-again Inv-loop μ-loop
+loop-again c = search needs
+
+same-length : tie.Need-same-length Inv-loop μ-loop
+same-length c = search needs
+
+returns : tie.Need-returns Inv-loop μ-loop
+returns c = tt
+
+same-length-2 : tie.Need-same-length-2 Inv-loop μ-loop
+same-length-2 c = search needs
+
+returns-2 : tie.Need-returns-2 Inv-loop μ-loop
+returns-2 c = tt
+
+pub cases-spec : {M : Type 1} → statement M
+cases-spec =
+    tie.close
+    (tie.spec
+    Inv-loop
+    μ-loop
+    loop-holds
+    next-case-requires
+    sub-turns
+    loop-less
+    loop-again
+    same-length
+    returns
+    same-length-2
+    returns-2)

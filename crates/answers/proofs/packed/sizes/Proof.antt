@@ -1,0 +1,19 @@
+-- `packed::sizes` meets its contract: each return by the tests that led there.
+use borrow.Author.Tests.{lt-ltb, le-ltb}
+use Rattle.answers.proofs.packed.sizes.Statement.{statement}
+use Rattle.answers.proofs.packed.sizes.Tie as tie
+
+returns : tie.Need-returns
+returns c = simp (le-ltb _ _ (c .if1 .taken))
+
+returns-2 : tie.Need-returns-2
+returns-2 c = simp (lt-ltb _ _ (c .before .if1 .left), le-ltb _ _ (c .if2 .taken))
+
+returns-3 : tie.Need-returns-3
+returns-3 c = simp (lt-ltb _ _ (c .before .before .if1 .left), lt-ltb _ _ (c .before .if2 .left), le-ltb _ _ (c .if3 .taken))
+
+returns-4 : tie.Need-returns-4
+returns-4 c = simp (lt-ltb _ _ (c .before .before .if1 .left), lt-ltb _ _ (c .before .if2 .left), lt-ltb _ _ (c .if3 .left))
+
+pub sizes-spec : {M : Type 1} → statement M
+sizes-spec = tie.close (tie.spec returns returns-2 returns-3 returns-4)

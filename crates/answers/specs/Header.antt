@@ -1,0 +1,34 @@
+-- The header line of a packed case (oracle/README.md): three fields of 8 columns and the line end, the sizes of the case's texts.
+use Prim.Native.Nat.{ℕ}
+use mathlib.Core.List.{List}
+use mathlib.Core.Bool.{Bool, true, false}
+use lib.ListN.{length, getD}
+use lib.Dec.{eqb, ltb}
+use lib.IntN.{ℤ, pos, negsuc}
+use Rattle.tables.specs.Table.{Cells, lineOf}
+use Rattle.tables.specs.Table.Cells.{cells, bad}
+use Rattle.answers.specs.declared.packed.Header.{Header}
+use Rattle.answers.specs.declared.packed.Header.the-variants.{Sizes, Broken}
+
+-- The first number that no field of 8 columns holds.
+abbrev pub limit : ℕ
+limit = 100000000
+
+-- A negative number is no size, and is put above every one.
+abbrev pub sizeOf : ℤ → ℕ
+sizeOf (pos n) = n
+sizeOf (negsuc n) = limit
+
+abbrev pub pickHeader : Bool → Header → Header → Header
+pickHeader true a b = a
+pickHeader false a b = b
+
+abbrev pub sizesOf : ℕ → ℕ → ℕ → Header
+sizesOf c q r = pickHeader (ltb c limit) (pickHeader (ltb q limit) (pickHeader (ltb r limit) (Sizes c q r) Broken) Broken) Broken
+
+abbrev pub headerLine : Cells → Header
+headerLine (cells l) = sizesOf (sizeOf (getD l 0 (pos 0))) (sizeOf (getD l 1 (pos 0))) (sizeOf (getD l 2 (pos 0)))
+headerLine bad = Broken
+
+unfoldable pub headerOf : List ℕ → Header
+headerOf s = pickHeader (eqb (length s) 25) (headerLine (lineOf 3 s)) Broken

@@ -1,0 +1,133 @@
+// Packed cases on standard input: for each a header line with the sizes of its chart, queries and rooms, and then these texts.
+ghost use mathlib.Core.Path.{_≡_};
+ghost use Prim.Native.Nat.{_≤_, min};
+ghost use Rattle.answers.specs.Header.{sizeOf, sizesOf, headerOf};
+use crate::print;
+use libc::STDIN_FILENO;
+
+// The first number that no field of 8 columns holds.
+const LIMIT: usize = 100000000;
+
+// What a header says: the sizes of a case's chart, queries and rooms.
+enum Header {
+    Sizes(usize, usize, usize),
+    Broken,
+}
+
+// A proved loop has to end, and nothing says that the input does. So this one counts its turns down, from a number that no run uses up.
+pub fn cases(space: &mut [u8]) {
+    let mut turns = u64::MAX;
+    while turns > 0 && next_case(space) {
+        turns -= 1;
+    }
+}
+
+// Answers the next case. Whether to go on.
+fn next_case(space: &mut [u8]) -> bool {
+    let mut line = [0u8; 25];
+    let n = io::read_full(STDIN_FILENO, &mut line);
+    if n == 0 {
+        return false;
+    }
+    let header = read_header(&line[..n]);
+    match header {
+        Header::Sizes(chart, queries, rooms) => {
+            if answer(space, chart, queries, rooms) {
+                return true;
+            }
+            print::broken_case();
+            false
+        }
+        Header::Broken => {
+            print::broken_header();
+            false
+        }
+    }
+}
+
+fn read_header(line: &[u8]) -> Header
+    ensures { λ r. ⌜ r ≡ headerOf (now (line .entry)) ⌝ }
+{
+    if line.len() != 25 {
+        return Header::Broken;
+    }
+    let mut row = [0i64; 3];
+    if !tables::line(line, 0, &mut row) {
+        return Header::Broken;
+    }
+    let chart = size(row[0]);
+    let queries = size(row[1]);
+    let rooms = size(row[2]);
+    sizes(chart, queries, rooms)
+}
+
+fn size(z: i64) -> usize
+    ensures { λ r. ⌜ r ≡ sizeOf z ⌝ }
+{
+    if z < 0 {
+        return LIMIT;
+    }
+    z as usize
+}
+
+fn sizes(chart: usize, queries: usize, rooms: usize) -> Header
+    ensures { λ r. ⌜ r ≡ sizesOf chart queries rooms ⌝ }
+{
+    if LIMIT <= chart {
+        return Header::Broken;
+    }
+    if LIMIT <= queries {
+        return Header::Broken;
+    }
+    if LIMIT <= rooms {
+        return Header::Broken;
+    }
+    Header::Sizes(chart, queries, rooms)
+}
+
+// Answers a case, if all its bytes are there. A chart longer than `space` is cut: it is longer than any chart, and so is its first part.
+fn answer(space: &mut [u8], chart: usize, queries: usize, rooms: usize) -> bool {
+    let kept = least(chart, space.len());
+    if io::read_full(STDIN_FILENO, &mut space[..kept]) < kept {
+        return false;
+    }
+    let number = estivolh::check(&space[..kept]);
+    if !skip(space, chart - kept) {
+        return false;
+    }
+    // no call needs these two yet
+    if !skip(space, queries) {
+        return false;
+    }
+    if !skip(space, rooms) {
+        return false;
+    }
+    print::verdict(number);
+    true
+}
+
+// Passes over the next `size` bytes of the input. Whether they were there.
+fn skip(space: &mut [u8], size: usize) -> bool {
+    let mut left = size;
+    while left > 0 {
+        let n = skip_some(space, left);
+        if n == 0 {
+            return false;
+        }
+        left -= n;
+    }
+    true
+}
+
+fn skip_some(space: &mut [u8], left: usize) -> usize
+    ensures { λ r. ⌜ r ≤ left ⌝ }
+{
+    let n = least(left, space.len());
+    io::read_full(STDIN_FILENO, &mut space[..n])
+}
+
+fn least(a: usize, b: usize) -> usize
+    ensures { λ r. ⌜ r ≡ min a b ⌝ }
+{
+    if a < b { a } else { b }
+}

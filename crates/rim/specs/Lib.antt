@@ -1,0 +1,2 @@
+pub mod TriangleA
+pub mod Checked

@@ -1,0 +1,1 @@
+// 01's worked examples as theorems about its triangle A: everything is in specs/.

@@ -1,0 +1,152 @@
+#!/usr/bin/env python3
+"""How good is a suite? Each mutant of second.py makes one mistake that a port could make; the suite must notice it.
+Equivalent, so alive for good: 'segment open at one end only' (the vertex at q comes first); '11 locally only' (Delaunay's lemma:
+with 7 to 10, no vertex inside a neighbour's circle means none inside any); '7 without the last half-edge', '10 without ..' and
+'11 without ..' (what they refuse comes in pairs: with 7 for all half-edges but one, it holds for that one; a reflex corner of the hull
+offends two half-edges by two vertices; an edge that 11 refuses offends two faces by two vertices). No test shows these, a proof does.
+
+    mutants.py [--only KINDS] DIR [SKIP]   DIR: a suite with the answers of the Rust oracle; SKIP: leave out the first mutants;
+                                           --only: by these kinds of lines alone
+"""
+import contextlib, io, os, sys, types
+
+sys.dont_write_bytecode = True  # nothing is left in the source tree
+from second import take_only
+
+here = os.path.dirname(os.path.abspath(__file__))
+SRC = open(os.path.join(here, 'second.py')).read()
+
+M = [
+    ('on the circle is inside', "circle(c.frm(c.prv(h)), c.frm(h), c.to(h), q) > 0", "circle(c.frm(c.prv(h)), c.frm(h), c.to(h), q) >= 0"),
+    ('line beyond the edge is the edge', "if 0 < d < (b[0] - a[0]) ** 2 + (b[1] - a[1]) ** 2:", "if True:"),
+    ('segment open at one end only', "if 0 < d < (b[0]", "if 0 <= d < (b[0]"),
+    ('hull pair reversed', "return 'ok', 0, [n, n ^ 1]", "return 'ok', 0, [n ^ 1, n]"),
+    ('corners from the adjacent edge', "return [self.prv(a), a, self.nxt(a)]", "return [a, self.nxt(a), self.prv(a)]"),
+    ('start edges not reversed', "for h in reversed(c.edges_of(n))", "for h in c.edges_of(n)"),
+    ('inspection order', "            visit(c.prv(h) ^ 1)  # the one pushed last is looked at first\n            visit(c.nxt(h) ^ 1)", "            visit(c.nxt(h) ^ 1)\n            visit(c.prv(h) ^ 1)"),
+    ('list not reversed', "out[::-1]", "out"),
+    ('edge starts swapped', "starts = [n, n ^ 1]", "starts = [n ^ 1, n]"),
+    ('start face not counted', "return 'ok', len(opened), out", "return 'ok', len(opened) - (kind == 'face'), out"),
+    ('hull edge opened as an inner one', "if kind == 'edge' and 0 in (c.face(n), c.face(n ^ 1)):", "if kind == 'edge' and c.face(n) == 0:"),
+    ('two weights by 1-(1-rel)', "(c.org(h ^ 1), rel)]", "(c.org(h ^ 1), 1.0 - (1.0 - rel))]"),
+    ('two weights swapped', "[(c.org(h), 1.0 - rel), (c.org(h ^ 1), rel)]", "[(c.org(h ^ 1), rel), (c.org(h), 1.0 - rel)]"),
+    ('third weight 1-(l1+l2)', "1.0 - l1 - l2", "1.0 - (l1 + l2)"),
+    ('third weight by its own area', "1.0 - l1 - l2", "div(float((x2-x1)*(q[1]-y1)-(y2-y1)*(q[0]-x1)), det)"),
+    ('centre by division', "nx * inv + float(v0[0]), ny * inv + float(v0[1])", "nx / float(d) + float(v0[0]), ny / float(d) + float(v0[1])"),
+    ('cell corners swapped', "centre(rel(c.to(h)), rel(c.frm(h)), (0, 0))", "centre(rel(c.frm(h)), rel(c.to(h)), (0, 0))"),
+    ('cell not about the query', "centre(rel(c.to(h)), rel(c.frm(h)), (0, 0))", "centre((0, 0), rel(c.to(h)), rel(c.frm(h)))"),
+    ('areas summed together', "pos, neg = pos + last[0] * m[1], neg + last[1] * m[0]", "pos = pos + (last[0] * m[1] - last[1] * m[0])"),
+    ('weights by the inverse', "return [(v, div(a, total)) for v, a in areas]", "return [(v, a * div(1.0, total)) for v, a in areas]"),
+    ('area not signed', "area = pos - neg", "area = abs(pos - neg)"),
+    ('gradient loses -0', "return -float(s[0]) / float(s[2]), -float(s[1]) / float(s[2])", "return 0.0 - float(s[0]) / float(s[2]), 0.0 - float(s[1]) / float(s[2])"),
+    ('gradient takes every normal', "if n[2] > 0: s", "if True: s"),
+    ('gradient clockwise', "        h = c.prv(h) ^ 1\n        assert", "        h = c.nxt(h ^ 1)\n        assert"),
+    ('gradient without the wrap', "for k, p in enumerate(ring):", "for k, p in enumerate(ring[:-1]):"),
+    ('alpha simplified', "alpha = alpha + cw * r", "alpha = alpha + x"),
+    ('zeta regrouped', "zeta = h + (float(dx) * gx + float(dy) * gy)", "zeta = h + float(dx) * gx + float(dy) * gy"),
+    ('sum regrouped', "return div(alpha * s0 + beta * s1, alpha + beta)", "return div(alpha * s0, alpha + beta) + div(beta * s1, alpha + beta)"),
+    ('diff turned', "dx, dy = q[0] - c.v[v][0], q[1] - c.v[v][1]", "dx, dy = c.v[v][0] - q[0], c.v[v][1] - q[1]"),
+    ('charge to even', "return True, math.floor(f + Fraction(1, 2))", "return True, round(f)"),
+    ('charge down', "return True, math.floor(f + Fraction(1, 2))", "return True, max(0, math.floor(f))"),
+    ('negative value charged', "if f < Fraction(-1, 2) or", "if f < Fraction(-1) or"),
+    ('highest outer half-edge', "    for h in range(len(c.h)):\n        if c.face(h) == 0 and side(c.frm(h), c.to(h), q) > 0: return 'outside', h", "    for h in reversed(range(len(c.h))):\n        if c.face(h) == 0 and side(c.frm(h), c.to(h), q) > 0: return 'outside', h"),
+    ('on the hull line is outside', "if c.face(h) == 0 and side(c.frm(h), c.to(h), q) > 0: return", "if c.face(h) == 0 and side(c.frm(h), c.to(h), q) >= 0: return"),
+    ('length before counts', "    if nv < 3 or nv > 128", "    if len(b) != 25 + 33 * nv + 33 * nh + 9 * nf:\n        return 3, None\n    if nv < 3 or nv > 128"),
+    ('128 vertices are too many', "nv > 128", "nv > 127"),
+    ('129 vertices', "nv > 128", "nv > 129"),
+    ('odd half-edges', "nh % 2 or ", ""),
+    ('756 half-edges are too many', "nh > 756", "nh > 755"),
+    ('253 faces', "nf > 252", "nf > 253"),
+    ('252 faces are too many', "nf > 252", "nf > 251"),
+    ('room after length', "    if room is not None and room < nh:\n        return 2, None\n    if len(b) != 25 + 33 * nv + 33 * nh + 9 * nf:\n        return 3, None", "    if len(b) != 25 + 33 * nv + 33 * nh + 9 * nf:\n        return 3, None\n    if room is not None and room < nh:\n        return 2, None"),
+    ('room one short', "room < nh", "room <= nh"),
+    ('-0 allowed', " or (neg and n == 0)", ""),
+    ('leading zeros allowed', "if str(n).encode() != d or", "if"),
+    ('line end not tested', "or line[-1] != 10", ""),
+    ('coordinate 10,001', "abs(x) > GRID", "abs(x) > GRID + 1"),
+    ('coordinate 10,000 refused', "abs(y) > GRID or z", "abs(y) >= GRID or z"),
+    ('value 1,000,000 refused', "z > 1000000", "z >= 1000000"),
+    ('value 1,000,001', "z > 1000000", "z > 1000001"),
+    ('number equal to its count', "ok = lambda n, m: 0 <= n < m", "ok = lambda n, m: 0 <= n <= m"),
+    ('links: next-start', "bad.add('next-start')", "pass"),
+    ('links: same-origin', "bad.add('same-origin')", "pass"),
+    ('links: prev and next', "if c.prv(n) != h: bad.add('prev-of-next')\n        if c.nxt(p) != h: bad.add('next-of-prev')", "pass"),
+    ('links: next-face', "bad.add('next-face')", "pass"),
+    ('links: three-nexts', "bad.add('three-nexts')", "pass"),
+    ('links: face-edges', "bad.add('face-edges')", "pass"),
+    ('links: out-start', "bad.add('out-start')", "pass"),
+    ('links: two-outer', "bad.add('two-outer')", "pass"),
+    ('links: adjacent-face', "bad.add('adjacent-face')", "pass"),
+    ('links: three nexts outside too', "        if c.face(h) != 0:\n            if c.nxt(c.nxt(n)) != h: bad.add('three-nexts')", "        if c.nxt(c.nxt(n)) != h: bad.add('three-nexts')\n        if c.face(h) != 0:"),
+    ('links: over-strict, one ring per vertex', "    for i, a in enumerate(c.f):\n        if c.face(a) != i", "    for i, v in enumerate(c.v):\n        k, s = 0, v[3]\n        while k <= len(c.h):\n            k, s = k + 1, c.prv(s) ^ 1\n            if s == v[3]: break\n        if k != sum(1 for h in c.h if h[0] == i): bad.add('ring')\n    for i, a in enumerate(c.f):\n        if c.face(a) != i"),
+    ('8 not tested', "if len(set((v[0], v[1]) for v in c.v)) < nv: return 8", "pass"),
+    ('9 allows a straight face', "if side(*c.corners(f)) <= 0: return 9", "if side(*c.corners(f)) < 0: return 9"),
+    ('9 after 10', "        if side(*c.corners(f)) <= 0: return 9\n", "        if side(*c.corners(f)) <= 0 and not any(side(c.frm(h), c.to(h), c.at(i)) > 0 for h in range(nh) if c.face(h) == 0 for i in range(nv)): return 9\n"),
+    ('10 not tested', "for i in range(nv)): return 10", "for i in range(0)): return 10"),
+    ('10 counts on the line', "any(side(c.frm(h), c.to(h), c.at(i)) > 0 for i in range(nv)): return 10", "any(side(c.frm(h), c.to(h), c.at(i)) >= 0 and i not in (c.org(h), c.org(h ^ 1)) for i in range(nv)): return 10"),
+    ('11 locally only', "any(circle(*k, c.at(i)) > 0 for i in range(nv)): return 11", "any(c.face(h ^ 1) != 0 and circle(*k, c.frm(c.prv(h ^ 1))) > 0 for h in c.edges_of(f)): return 11"),
+    ('11 not tested', "if any(circle(*k, c.at(i)) > 0 for i in range(nv)): return 11", "pass"),
+    ('11 counts on the circle', "any(circle(*k, c.at(i)) > 0 for i in range(nv)): return 11", "any(circle(*k, c.at(i)) >= 0 and c.at(i) not in k for i in range(nv)): return 11"),
+    ('6 without the last vertex', "for x, y, z, o in c.v:", "for x, y, z, o in c.v[:-1]:"),
+    ('6 without the last half-edge', "for o, n, p, f in c.h:", "for o, n, p, f in c.h[:-1]:"),
+    ('6 without the last face', "for a in c.f:", "for a in c.f[:-1]:"),
+    ('6 allows negative numbers', "ok = lambda n, m: 0 <= n < m", "ok = lambda n, m: n < m"),
+    ('6 allows negative values', "or z < 0 or z > 1000000", "or z > 1000000"),
+    ('7 without the last half-edge', "    for h in range(len(c.h)):\n        n, p", "    for h in range(len(c.h) - 1):\n        n, p"),
+    ('7 without the last vertex', "    for i, v in enumerate(c.v):\n        if c.org(v[3])", "    for i, v in enumerate(c.v[:-1]):\n        if c.org(v[3])"),
+    ('7 without the last face', "for i, a in enumerate(c.f):", "for i, a in enumerate(c.f[:-1]):"),
+    ('7 without the outer face', "        if c.face(a) != i: bad", "        if i and c.face(a) != i: bad"),
+    ('partner always h + 1', "        if c.org(n) != c.org(h ^ 1): bad", "        if c.org(n) != c.org((h + 1) % len(c.h)): bad"),
+    ('8 without the last vertex', "if len(set((v[0], v[1]) for v in c.v)) < nv:", "if len(set((v[0], v[1]) for v in c.v[:-1])) < nv - 1:"),
+    ('9 without the last face', "    for f in range(1, nf):\n        if side", "    for f in range(1, nf - 1):\n        if side"),
+    ('9 without the first inner face', "    for f in range(1, nf):\n        if side", "    for f in range(2, nf):\n        if side"),
+    ('10 without the last half-edge', "    for h in range(nh):\n        if c.face(h) == 0 and any", "    for h in range(nh - 1):\n        if c.face(h) == 0 and any"),
+    ('10 without the last vertex', "c.at(i)) > 0 for i in range(nv)): return 10", "c.at(i)) > 0 for i in range(nv - 1)): return 10"),
+    ('11 without the last face', "    for f in range(1, nf):\n        k = c.corners", "    for f in range(1, nf - 1):\n        k = c.corners"),
+    ('11 without the last vertex', "c.at(i)) > 0 for i in range(nv)): return 11", "c.at(i)) > 0 for i in range(nv - 1)): return 11"),
+    ('splice keeps the count', "self.retired + self.wear[sec], 0, 0", "self.retired + self.wear[sec], 0, self.bends[sec]"),
+    ('splice drops the wear', "self.retired + self.wear[sec], 0, 0", "self.retired, 0, 0"),
+    ('splice with x, y, method', "if (x, y, m) != (0, 0, 0): return no(12)", "pass"),
+    ('splice checked for the method', "        if kind == 2:\n            if (x", "        if m not in (1, 2, 3): return no(12)\n        if kind == 2:\n            if (x"),
+    ('13 before 12', "        if m not in (1, 2, 3): return no(12)\n        if not on_grid((x, y)): return no(13)", "        if not on_grid((x, y)): return no(13)\n        if m not in (1, 2, 3): return no(12)"),
+    ('17 without retired wear', "if sum(self.wear) + self.retired + n > FULL", "if sum(self.wear) + n > FULL"),
+    ('17 at the limit itself', "self.retired + n > FULL", "self.retired + n >= FULL"),
+    ('17 by the section only', "if sum(self.wear) + self.retired + n > FULL", "if self.wear[sec] + self.retired + n > FULL"),
+    ('17 without the count', " or self.bends[sec] == FULL: return", ": return"),
+    ('17 before 16', "        ok, n = charge(v)\n        if not ok: return no(n)\n        if sum", "        ok, n = charge(v)\n        if self.bends[sec] == FULL: return no(17)\n        if not ok: return no(n)\n        if sum"),
+    ('1 wraps in 64 bits', "sum(wear) + retired > FULL", "(sum(wear) + retired) % 2 ** 64 > FULL"),
+    ('1 forgets the counts past the end', " or any(cnt[s:])", ""),
+    ('1 after 2', "    elif len(ent) % 5 or room < len(ent) // 5: r = 2\n", "    if len(ent) % 5 or room < len(ent) // 5: r = 2\n    elif not 1 <= s <= 16 or sum(wear) + retired > FULL or max(cnt) > FULL or any(wear[s:]) or any(cnt[s:]): r = 1\n"),
+    ('2 after the chart', "    elif len(ent) % 5 or room < len(ent) // 5: r = 2\n    else: r = refusal(b)", "    else: r = refusal(b) or (2 if len(ent) % 5 or room < len(ent) // 5 else 0)"),
+    ('log: count before length', "        if len(log) % 41: n = 3\n        elif len(log) > 41 * 512: n = 4", "        if len(log) > 41 * 512: n = 4\n        elif len(log) % 41: n = 3"),
+    ('log: 512 are too many', "len(log) > 41 * 512", "len(log) >= 41 * 512"),
+]
+
+
+def run(text, d, only):
+    m = types.ModuleType('mutant')
+    m.__file__ = 'mutant'
+    exec(compile(text, 'mutant', 'exec'), m.__dict__)
+    out = io.StringIO()
+    try:
+        with contextlib.redirect_stdout(out): m.suite(d, True, only)
+    except (Exception, RecursionError) as e:
+        return 'crash %s' % type(e).__name__
+    o = out.getvalue().strip().split('\n')
+    return o[-1] if o[-1].endswith(' 0 files differ') else o[0]
+
+
+if __name__ == '__main__':
+    sys.setrecursionlimit(3000)
+    only = take_only(sys.argv)
+    d = sys.argv[1]
+    alive = 0
+    skip = int(sys.argv[2]) if len(sys.argv) > 2 else 0
+    for name, old, new in [('(none)', 'import math', 'import math')] + M[skip:]:
+        assert SRC.count(old) == 1, (name, SRC.count(old))
+        r = run(SRC.replace(old, new), d, only)
+        if r.endswith(' 0 files differ') and name != '(none)':
+            alive += 1
+            print('ALIVE ', end='')
+        print(name, '->', r, flush=True)
+    print('%d mutants, %d alive' % (len(M), alive))
