@@ -61,6 +61,13 @@ partner-odd k = omega arith
 pub partner-twice : (h : ℕ) → partner (partner h) ≡ h
 partner-twice h = omega arith
 
+-- a half-edge runs from the place of its origin to that of its partner's
+abbrev pub fromOf : Chart → ℕ → Place
+fromOf c h = c .place (c .origin h)
+
+abbrev pub toOf : Chart → ℕ → Place
+toOf c h = c .place (c .origin (partner h))
+
 -- face 0 is the outer one
 abbrev pub outer : Chart → ℕ → Bool
 outer c h = eqb (c .face h) 0

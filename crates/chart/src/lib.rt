@@ -92,3 +92,11 @@ pub fn from_of(vertices: &[i64], edges: &[usize], faces: &[usize], h: usize) -> 
 {
     place_of(vertices, origin_of(edges, h))
 }
+
+// The place where half-edge h ends: where its partner starts.
+pub fn to_of(vertices: &[i64], edges: &[usize], faces: &[usize], h: usize) -> Place
+    requires { ⌜ InRange (chartOf (now vertices) (now edges) (now faces)) ⌝ ∗ ⌜ h < rows (now edges) ⌝ }
+    ensures { λ r. ⌜ (r ≡ placeOf (now (vertices .entry)) (originOf (now (edges .entry)) (partner h))) × OnGrid r ⌝ }
+{
+    from_of(vertices, edges, faces, partner_of(h))
+}

@@ -10,7 +10,7 @@ ghost use Rattle.chart.specs.Chart.{chartOf, InRange};
 ghost use Rattle.delaunay.specs.Delaunay.{Gridded, samePlace, standsAt, liesLeft, liesInside, sharesPlace, notLeft, overhung, crowded};
 
 // Whether two places are one.
-fn is_same_place(p: Place, q: Place) -> bool
+pub fn is_same_place(p: Place, q: Place) -> bool
     ensures { λ r. ⌜ r ≡ samePlace p q ⌝ }
 {
     if p.x != q.x {

@@ -54,7 +54,7 @@ circle a b c q = lifted (vectorOf q a) (vectorOf q b) (vectorOf q c)
 unfoldable pub onOpenSegment : Place → Place → Place → Bool
 onOpenSegment a b q = eqZ (side a b q) (pos 0) && ltZ (dotOf (vectorOf q a) (vectorOf q b)) (pos 0)
 
--- ---- bounds: how large a coordinate of a vector between two places of the grid, and a cross product of two, can be
+-- ---- bounds: how large a coordinate of a vector between two places of the grid, and a product of two, can be
 abbrev pub Step : ℕ
 Step = Grid + Grid
 
@@ -79,6 +79,11 @@ vector-near p q = record { x-in = sub-in (q .x-in) (p .x-in); y-in = sub-in (q .
 pub cross-in : {u v : Place} → Near u → Near v → Within Area (crossOf u v)
 unfolding crossOf
 cross-in u v = sub-in (mul-in (u .x-in) (v .y-in)) (mul-in (u .y-in) (v .x-in))
+
+-- the bound of a dot product
+pub dot-in : {u v : Place} → Near u → Near v → Within Area (dotOf u v)
+unfolding dotOf
+dot-in u v = add-in (mul-in (u .x-in) (v .x-in)) (mul-in (u .y-in) (v .y-in))
 
 -- the bound of a squared length
 pub norm2-in : {u : Place} → Near u → Within Area (norm2Of u)

@@ -3,7 +3,7 @@ ghost use mathlib.Core.Path.{_≡_};
 ghost use lib.IntN.{pos, _+ℤ_, _-ℤ_, _*ℤ_};
 ghost use lib.Signed.{ltZ};
 ghost use Rattle.whole.specs.Bound.{Within};
-ghost use Rattle.geometry.specs.Plane.{Step, Area, Minor, OnGrid, Near, vectorOf, crossOf, norm2Of, lifted, side, circle, offGrid};
+ghost use Rattle.geometry.specs.Plane.{Step, Area, Minor, OnGrid, Near, vectorOf, crossOf, dotOf, norm2Of, lifted, side, circle, onOpenSegment, offGrid};
 
 // The grid's bound: coordinates run from -GRID to GRID.
 pub const GRID: i64 = 10000;
@@ -35,6 +35,14 @@ fn cross(u: Place, v: Place) -> i64
     u.x * v.y - u.y * v.x
 }
 
+// The dot product u · v.
+fn dot(u: Place, v: Place) -> i64
+    requires { ⌜ Near u ⌝ ∗ ⌜ Near v ⌝ }
+    ensures { λ r. ⌜ r ≡ dotOf u v ⌝ }
+{
+    u.x * v.x + u.y * v.y
+}
+
 // The squared length |u|².
 fn norm2(u: Place) -> i64
     requires { ⌜ Near u ⌝ }
@@ -57,6 +65,17 @@ pub fn is_on_left_side(a: Place, b: Place, q: Place) -> bool
     ensures { λ r. ⌜ r ≡ ltZ (pos 0) (side a b q) ⌝ }
 {
     0 < side_query(a, b, q)
+}
+
+// Whether q is on the open segment from a to b: on its line, with the ends in opposite directions.
+pub fn is_on_open_segment(a: Place, b: Place, q: Place) -> bool
+    requires { ⌜ OnGrid a ⌝ ∗ ⌜ OnGrid b ⌝ ∗ ⌜ OnGrid q ⌝ }
+    ensures { λ r. ⌜ r ≡ onOpenSegment a b q ⌝ }
+{
+    if side_query(a, b, q) != 0 {
+        return false;
+    }
+    dot(vector(q, a), vector(q, b)) < 0
 }
 
 // t·y - s·x, for two squared lengths and two coordinates.

@@ -5,7 +5,7 @@ use mathlib.Core.Bool.{Bool, true, false, cond, _||_}
 use Prim.Native.Nat.{ℕ, zero, suc, _+_, _*_, _-_, _^_, _≤_, suc-le-suc}
 use native.Mathlib.Nat.{le-refl, le-trans, le-of-eq, mul-le-mul, add-le-add, lt-of-le-of-lt}
 use native.Mathlib.Omega.{arith}
-use lib.Dec.{T, ltb, ltb→lt}
+use lib.Dec.{T, ltb, leb, ltb→lt, leb→le}
 use lib.IntN.{ℤ, pos, negsuc, negℤ, natAbs, subℕ, _+ℤ_, _-ℤ_, _*ℤ_}
 use lib.Signed.{mag, ltZ}
 use borrow.Author.Tests.{ltb-false}
@@ -70,6 +70,10 @@ mul-in {a = a} {b = b} h k = record { abs = le-trans (le-of-eq (natAbs-mul a b))
 -- a number whose bound is a numeral below 2^63 fits an i64: `fits h tt`
 pub fits : {n : ℕ} {z : ℤ} → Within n z → T (ltb n (2 ^ 63)) → SFits w64 z
 fits {n} {z} h t = record { sfits = lt-of-le-of-lt (le-trans (mag-le z) (h .abs)) (ltb→lt n (2 ^ 63) t) }
+
+-- a wider bound: `widen h tt` at numerals
+pub widen : {m n : ℕ} {z : ℤ} → Within m z → T (leb m n) → Within n z
+widen {m} {n} h t = record { abs = le-trans (h .abs) (leb→le m n t) }
 
 -- what the machine reads back from the bits of a number that fits is the number: `simp (back h tt, ..)` clears a goal of `toZ w64 (ofZ w64 z)`
 pub back : {n : ℕ} {z : ℤ} → Within n z → T (ltb n (2 ^ 63)) → toZ w64 (ofZ w64 z) ≡ z

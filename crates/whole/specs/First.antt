@@ -1,14 +1,16 @@
 -- The lowest number below n of which a test holds, or n where there is none: what a scan from the front finds.
--- A scan's invariant is that no number before i passes: `some-at` at a hit, `some-none` at the end. Assumes nothing.
-use mathlib.Core.Path.{_≡_, refl, sym, subst, _∙_}
+-- A scan's invariant is that no number before i passes (`some-at` at a hit, `some-none` at the end), or, where the number found is wanted, that the rest
+-- of the scan finds it. Assumes nothing.
+use mathlib.Core.Path.{_≡_, refl, sym, ap, subst, _∙_}
 use mathlib.Core.Bool.{Bool, true, false, false≢true}
 use Prim.Native.Nat.{ℕ, zero, suc, _+_, _-_, _≤_, _<_, zero-le}
-use native.Mathlib.Nat.{lt-of-lt-of-le, le-refl, lt-irrefl, not-le-of-lt, eq-or-lt-of-le, add-suc, suc-add, add-zero, zero-add}
+use native.Mathlib.Nat.{lt-of-lt-of-le, sub-zero, le-refl, lt-irrefl, not-le-of-lt, eq-or-lt-of-le, add-suc, suc-add, add-zero, zero-add}
 use mathlib.Core.Logic.{⊎-elim}
 use lib.Dec.{ltb}
 use borrow.Author.Tests.{ltb-true, ltb-false}
 use borrow.Author.Count.{below-more}
 use Rattle.whole.specs.Bools.{is-false}
+use native.Mathlib.Numerals.{add-one}
 use native.Mathlib.Omega.{arith}
 
 -- from i on, among the next k numbers
@@ -34,6 +36,25 @@ from-false p i k e = rw (e, from) refl
 from-nil : (p : ℕ → Bool) (i : ℕ) → from p i zero ≡ i
 unfolding from
 from-nil p i = refl
+
+-- ---- a scan whose invariant is `first p n ≡ from p i (n - i)`: it begins so
+pub first-from : (p : ℕ → Bool) (n : ℕ) → first p n ≡ from p 0 (n - 0)
+first-from p n = rw sub-zero
+
+-- it finds i
+pub from-hit : (p : ℕ → Bool) (i n : ℕ) → i < n → p i ≡ true → from p i (n - i) ≡ i
+from-hit p i n h e =
+    let s : n - i ≡ suc (n - suc i) = omega arith in ap (λ (k : ℕ). from p i k) s ∙ from-true p i (n - suc i) e
+
+-- it goes on
+pub from-miss : (p : ℕ → Bool) (i n : ℕ) → i < n → p i ≡ false → from p i (n - i) ≡ from p (i + 1) (n - (i + 1))
+from-miss p i n h e =
+    let s : n - i ≡ suc (n - suc i) = omega arith in
+    ap (λ (k : ℕ). from p i k) s ∙ from-false p i (n - suc i) e ∙ ap (λ (j : ℕ). from p j (n - j)) (sym (add-one i))
+
+-- it ends
+pub from-end : (p : ℕ → Bool) (i n : ℕ) → n ≤ i → from p i (n - i) ≡ i
+from-end p i n h = let z : n - i ≡ zero = omega arith in ap (λ (k : ℕ). from p i k) z ∙ from-nil p i
 
 -- ---- what the number found says
 from-split : (p : ℕ → Bool) (i k : ℕ) (b : Bool) → p i ≡ b → (P : ℕ → Type 0) → (b ≡ true → P i) → (b ≡ false → P (from p (suc i) k)) → P (from p i (suc k))

@@ -7,7 +7,7 @@ use borrow.Author.Tests.{eq-eqb, eqb-true}
 use Rattle.whole.specs.Bools.{same-test, is-false}
 use mir.Syntax.{w64}
 use mir.Val.{SFits, toZ, ofZ}
-use mir.Facts.{toZ-ofZ}
+use mir.Facts.{toZ-ofZ, sfits-lit}
 
 -- equality of whole numbers
 abbrev pub eqZ : ℤ → ℤ → Bool
@@ -49,3 +49,7 @@ pub bits-eq : {a b : ℤ} → SFits w64 a → SFits w64 b → eqb (ofZ w64 a) (o
 bits-eq {a} {b} f g =
     same-test (eqb (ofZ w64 a) (ofZ w64 b)) (eqZ a b) (λ e. bits-true f g (eqb-true (ofZ w64 a) (ofZ w64 b) e))
     (λ e. eq-eqb (ofZ w64 a) (ofZ w64 b) (ap (ofZ w64) (eqZ-true a b e)))
+
+-- 0 fits
+pub zero-fits : SFits w64 (pos 0)
+zero-fits = sfits-lit tt

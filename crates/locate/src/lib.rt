@@ -1,0 +1,171 @@
+// Where a load lies on a chart, by scans from the front (01, "Location"; the Rust's `locate`).
+use geometry::Place;
+ghost use mathlib.Core.Path.{_≡_};
+ghost use Prim.Native.Nat.{_<_};
+ghost use lib.ListN.{length};
+ghost use Rattle.whole.specs.First.{first};
+ghost use Rattle.geometry.specs.Plane.{OnGrid};
+ghost use Rattle.chart.specs.Tables.{rows};
+ghost use Rattle.chart.specs.Chart.{chartOf, InRange};
+ghost use Rattle.locate.specs.Location.{atVertex, onEdge, onEvenEdge, leftOf, leftOfThree, inFace, leftOfOuter, locationOf};
+
+// The Rust's `PositionInTriangulation`; `NoPlace` is 01's refusal 15.
+pub enum Location {
+    OnVertex(usize),
+    OnEdge(usize),
+    OnFace(usize),
+    OutsideOfConvexHull(usize),
+    NoPlace,
+}
+
+// Whether vertex v is at q.
+fn is_at_vertex(vertices: &[i64], edges: &[usize], faces: &[usize], q: Place, v: usize) -> bool
+    requires { ⌜ v < rows (now vertices) ⌝ }
+    ensures { λ r. ⌜ r ≡ atVertex (chartOf (now (vertices .entry)) (now (edges .entry)) (now (faces .entry))) q v ⌝ }
+{
+    delaunay::is_same_place(chart::place_of(vertices, v), q)
+}
+
+// The lowest vertex at q, or the count of vertices.
+fn find_vertex(vertices: &[i64], edges: &[usize], faces: &[usize], q: Place) -> usize
+    ensures { λ r. ⌜ r ≡ first (atVertex (chartOf (now (vertices .entry)) (now (edges .entry)) (now (faces .entry))) q) (rows (now (vertices .entry))) ⌝ }
+{
+    let n = vertices.len() / 4;
+    let mut v = 0;
+    while v < n {
+        if is_at_vertex(vertices, edges, faces, q, v) {
+            return v;
+        }
+        v += 1;
+    }
+    v
+}
+
+// Whether q is on the open segment of half-edge h.
+fn is_on_edge(vertices: &[i64], edges: &[usize], faces: &[usize], q: Place, h: usize) -> bool
+    requires { ⌜ InRange (chartOf (now vertices) (now edges) (now faces)) ⌝ ∗ ⌜ OnGrid q ⌝ ∗ ⌜ h < rows (now edges) ⌝ }
+    ensures { λ r. ⌜ r ≡ onEdge (chartOf (now (vertices .entry)) (now (edges .entry)) (now (faces .entry))) q h ⌝ }
+{
+    let a = chart::from_of(vertices, edges, faces, h);
+    let b = chart::to_of(vertices, edges, faces, h);
+    geometry::is_on_open_segment(a, b, q)
+}
+
+// The lowest even half-edge with q on its open segment, or the count of half-edges.
+fn find_edge(vertices: &[i64], edges: &[usize], faces: &[usize], q: Place) -> usize
+    requires { ⌜ InRange (chartOf (now vertices) (now edges) (now faces)) ⌝ ∗ ⌜ OnGrid q ⌝ }
+    ensures { λ r. ⌜ r ≡ first (onEvenEdge (chartOf (now (vertices .entry)) (now (edges .entry)) (now (faces .entry))) q) (rows (now (edges .entry))) ⌝ }
+{
+    let n = edges.len() / 4;
+    let mut k = 0;
+    while k < n / 2 {
+        let h = 2 * k;
+        if is_on_edge(vertices, edges, faces, q, h) {
+            return h;
+        }
+        k += 1;
+    }
+    n
+}
+
+// Whether q is strictly left of half-edge h.
+fn is_left_of(vertices: &[i64], edges: &[usize], faces: &[usize], q: Place, h: usize) -> bool
+    requires { ⌜ InRange (chartOf (now vertices) (now edges) (now faces)) ⌝ ∗ ⌜ OnGrid q ⌝ ∗ ⌜ h < rows (now edges) ⌝ }
+    ensures { λ r. ⌜ r ≡ leftOf (chartOf (now (vertices .entry)) (now (edges .entry)) (now (faces .entry))) q h ⌝ }
+{
+    let a = chart::from_of(vertices, edges, faces, h);
+    let b = chart::to_of(vertices, edges, faces, h);
+    geometry::is_on_left_side(a, b, q)
+}
+
+// Whether q is strictly left of half-edge h, of its next and of its prev.
+fn is_left_of_three(vertices: &[i64], edges: &[usize], faces: &[usize], q: Place, h: usize) -> bool
+    requires { ⌜ InRange (chartOf (now vertices) (now edges) (now faces)) ⌝ ∗ ⌜ OnGrid q ⌝ ∗ ⌜ h < rows (now edges) ⌝ }
+    ensures { λ r. ⌜ r ≡ leftOfThree (chartOf (now (vertices .entry)) (now (edges .entry)) (now (faces .entry))) q h ⌝ }
+{
+    if !is_left_of(vertices, edges, faces, q, h) {
+        return false;
+    }
+    if !is_left_of(vertices, edges, faces, q, chart::next_of(edges, h)) {
+        return false;
+    }
+    is_left_of(vertices, edges, faces, q, chart::prev_of(edges, h))
+}
+
+// Whether f is an inner face and q strictly left of its three half-edges.
+fn is_in_face(vertices: &[i64], edges: &[usize], faces: &[usize], q: Place, f: usize) -> bool
+    requires { ⌜ InRange (chartOf (now vertices) (now edges) (now faces)) ⌝ ∗ ⌜ OnGrid q ⌝ ∗ ⌜ f < length (now faces) ⌝ }
+    ensures { λ r. ⌜ r ≡ inFace (chartOf (now (vertices .entry)) (now (edges .entry)) (now (faces .entry))) q f ⌝ }
+{
+    if f == 0 {
+        return false;
+    }
+    is_left_of_three(vertices, edges, faces, q, chart::adjacent_of(faces, f))
+}
+
+// The lowest inner face with q strictly left of its three half-edges, or the count of faces.
+fn find_face(vertices: &[i64], edges: &[usize], faces: &[usize], q: Place) -> usize
+    requires { ⌜ InRange (chartOf (now vertices) (now edges) (now faces)) ⌝ ∗ ⌜ OnGrid q ⌝ }
+    ensures { λ r. ⌜ r ≡ first (inFace (chartOf (now (vertices .entry)) (now (edges .entry)) (now (faces .entry))) q) (length (now (faces .entry))) ⌝ }
+{
+    let n = faces.len();
+    let mut f = 0;
+    while f < n {
+        if is_in_face(vertices, edges, faces, q, f) {
+            return f;
+        }
+        f += 1;
+    }
+    f
+}
+
+// Whether h is an outer half-edge and q strictly left of it.
+fn is_left_of_outer(vertices: &[i64], edges: &[usize], faces: &[usize], q: Place, h: usize) -> bool
+    requires { ⌜ InRange (chartOf (now vertices) (now edges) (now faces)) ⌝ ∗ ⌜ OnGrid q ⌝ ∗ ⌜ h < rows (now edges) ⌝ }
+    ensures { λ r. ⌜ r ≡ leftOfOuter (chartOf (now (vertices .entry)) (now (edges .entry)) (now (faces .entry))) q h ⌝ }
+{
+    if chart::face_of(edges, h) != 0 {
+        return false;
+    }
+    is_left_of(vertices, edges, faces, q, h)
+}
+
+// The lowest outer half-edge with q strictly left, or the count of half-edges.
+fn find_outer(vertices: &[i64], edges: &[usize], faces: &[usize], q: Place) -> usize
+    requires { ⌜ InRange (chartOf (now vertices) (now edges) (now faces)) ⌝ ∗ ⌜ OnGrid q ⌝ }
+    ensures { λ r. ⌜ r ≡ first (leftOfOuter (chartOf (now (vertices .entry)) (now (edges .entry)) (now (faces .entry))) q) (rows (now (edges .entry))) ⌝ }
+{
+    let n = edges.len() / 4;
+    let mut h = 0;
+    while h < n {
+        if is_left_of_outer(vertices, edges, faces, q, h) {
+            return h;
+        }
+        h += 1;
+    }
+    h
+}
+
+// Where q lies: the first scan that finds something answers.
+pub fn locate(vertices: &[i64], edges: &[usize], faces: &[usize], q: Place) -> Location
+    requires { ⌜ InRange (chartOf (now vertices) (now edges) (now faces)) ⌝ ∗ ⌜ OnGrid q ⌝ }
+    ensures { λ r. ⌜ r ≡ locationOf (chartOf (now (vertices .entry)) (now (edges .entry)) (now (faces .entry))) q ⌝ }
+{
+    let v = find_vertex(vertices, edges, faces, q);
+    if v < vertices.len() / 4 {
+        return Location::OnVertex(v);
+    }
+    let e = find_edge(vertices, edges, faces, q);
+    if e < edges.len() / 4 {
+        return Location::OnEdge(e);
+    }
+    let f = find_face(vertices, edges, faces, q);
+    if f < faces.len() {
+        return Location::OnFace(f);
+    }
+    let h = find_outer(vertices, edges, faces, q);
+    if h < edges.len() / 4 {
+        return Location::OutsideOfConvexHull(h);
+    }
+    Location::NoPlace
+}
