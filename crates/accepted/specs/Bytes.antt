@@ -17,11 +17,11 @@ use Rattle.ranges.specs.Ranges.{outOfRange}
 use Rattle.ranges.specs.Passed.{Counted, in-range, values-in}
 use Rattle.checks.specs.Checks.{chartRefusal, tablesRefusal, Loaded, told}
 use Rattle.checks.specs.Checks.Loaded.{loaded, refused}
-use Rattle.reading.specs.Reading.{headLength, headOf, fileLength, Body, pickBody, three, bodyOf, loadBody, loadOf, refusalOf, afterHead, chartRefusalOf}
+use Rattle.reading.specs.Reading.{headLength, headOf, fileLength, Body, pickBody, three, bodyOf, loadBody, loadOf, refusalOf, afterHead, chartIn, chartRefusalOf}
 use Rattle.reading.specs.Reading.Body.{body, malformed}
 use Rattle.reading.specs.declared.Head.{Head}
 use Rattle.reading.specs.declared.Head.the-variants.{Refused, Counts}
-use Rattle.reading.specs.Laws.{head-counted, head-refusal, load-refusal}
+use Rattle.reading.specs.Laws.{head-counted, head-refusal, load-refusal, chart-body}
 use Rattle.accepted.specs.Tests.{passed}
 use Rattle.accepted.specs.Accepted.{Accepted, accepted}
 
@@ -101,19 +101,19 @@ pub record AcceptedBytes (s : List ℕ) : Type 0 where
   pub vs : List ℤ
   pub es : List ℕ
   pub fs : List ℕ
-  pub head : headOf s ≡ Counts v e f
-  pub load : loadOf v e f s ≡ loaded vs es fs
+  pub counts : headOf s ≡ Counts v e f
+  pub tables : chartIn s ≡ loaded vs es fs
   pub chart : Accepted (chartOf vs es fs)
 
 pub bytes-accepted : (s : List ℕ) → chartRefusalOf s ≡ 0 → AcceptedBytes s
-unfolding chartRefusalOf
+unfolding chartIn
 bytes-accepted s h = by-head (headOf s) refl h
   where
     by-load : (v e f : ℕ) → headOf s ≡ Counts v e f → (l : Loaded) → loadOf v e f s ≡ l → refusalOf l ≡ 0 → AcceptedBytes s
     by-load v e f q (loaded vs es fs) k z =
-        record { v = v; e = e; f = f; vs = vs; es = es; fs = fs; head = q; load = k; chart = load-accepted v e f s vs es fs (head-counted s v e f q) k }
+        record { v = v; e = e; f = f; vs = vs; es = es; fs = fs; counts = q; tables = chart-body s v e f q ∙ k; chart = load-accepted v e f s vs es fs (head-counted s v e f q) k }
     by-load v e f q (refused n) k z = absurd (load-refusal v e f s n k z)
 
-    by-head : (d : Head) → headOf s ≡ d → afterHead d s ≡ 0 → AcceptedBytes s
+    by-head : (d : Head) → headOf s ≡ d → refusalOf (afterHead d s) ≡ 0 → AcceptedBytes s
     by-head (Refused n) q z = absurd (head-refusal s n q z)
     by-head (Counts v e f) q z = by-load v e f q (loadOf v e f s) refl z

@@ -42,6 +42,10 @@ overhung c h =
 abbrev pub liesInside : (ℕ → Place) → Place → Place → Place → ℕ → Bool
 liesInside place a b c v = ltZ (pos 0) (circle a b c (place v))
 
+-- the place q is strictly inside the circle of face f
+abbrev pub inCircle : Chart → Place → ℕ → Bool
+inCircle c q f = ltZ (pos 0) (circle (c .place (corner₀ c f)) (c .place (corner₁ c f)) (c .place (corner₂ c f)) q)
+
 abbrev pub crowded : Chart → ℕ → Bool
 crowded c f =
     ltb 0 f

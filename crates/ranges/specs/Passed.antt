@@ -14,18 +14,18 @@ use Rattle.whole.specs.First.{some, none-at}
 use Rattle.geometry.specs.Plane.{offGrid, on-grid}
 use Rattle.chart.specs.Tables.{rows, unsigned, unsignedAll, placeOf, valueOf}
 use Rattle.chart.specs.Chart.{chartOf, InRange}
-use Rattle.ranges.specs.Ranges.{countsRefused, odd, notBelow, cell, ValueMax, badVertex, badHalfEdge, badFace, outOfRange}
+use Rattle.ranges.specs.Ranges.{LeastVertices, MostVertices, LeastHalfEdges, MostHalfEdges, LeastFaces, MostFaces, countsRefused, odd, notBelow, cell, ValueMax, badVertex, badHalfEdge, badFace, outOfRange}
 
 -- ---- 4
 -- the counts that pass
 pub record Counted (v e f : ℕ) : Type 0 where
-  pub v-least : 3 ≤ v
-  pub v-most : v ≤ 128
-  pub e-least : 6 ≤ e
-  pub e-most : e ≤ 756
+  pub v-least : LeastVertices ≤ v
+  pub v-most : v ≤ MostVertices
+  pub e-least : LeastHalfEdges ≤ e
+  pub e-most : e ≤ MostHalfEdges
   pub e-even : e % 2 ≡ 0
-  pub f-least : 2 ≤ f
-  pub f-most : f ≤ 252
+  pub f-least : LeastFaces ≤ f
+  pub f-most : f ≤ MostFaces
 
 -- a number that is not outside
 between : (lo hi n : ℕ) → outside (pos lo) (pos hi) (pos n) ≡ false → (lo ≤ n) × (n ≤ hi)
@@ -35,12 +35,12 @@ between lo hi n e = let p = or-false (ltb n lo) (ltb hi n) e in (ltb-false n lo 
 pub counted : (v e f : ℕ) → countsRefused (pos v) (pos e) (pos f) ≡ false → Counted v e f
 unfolding countsRefused
 counted v e f h =
-    let a = or-false (outside (pos 3) (pos 128) (pos v)) _ h in
+    let a = or-false (outside (pos LeastVertices) (pos MostVertices) (pos v)) _ h in
     let b = or-false (odd (pos e)) _ (a .1) in
-    let d = or-false (outside (pos 6) (pos 756) (pos e)) (outside (pos 2) (pos 252) (pos f)) (b .1) in
-    let x = between 3 128 v (a .0) in
-    let y = between 6 756 e (d .0) in
-    let z = between 2 252 f (d .1) in
+    let d = or-false (outside (pos LeastHalfEdges) (pos MostHalfEdges) (pos e)) (outside (pos LeastFaces) (pos MostFaces) (pos f)) (b .1) in
+    let x = between LeastVertices MostVertices v (a .0) in
+    let y = between LeastHalfEdges MostHalfEdges e (d .0) in
+    let z = between LeastFaces MostFaces f (d .1) in
     record {
       v-least = x .0;
       v-most = x .1;
@@ -60,10 +60,10 @@ not-negative lo hi (negsuc n) e = absurd (false≢true (sym e))
 pub passed-positive : (v e f : ℤ) → countsRefused v e f ≡ false → (pos (unsigned v) ≡ v) × ((pos (unsigned e) ≡ e) × (pos (unsigned f) ≡ f))
 unfolding countsRefused
 passed-positive v e f h =
-    let a = or-false (outside (pos 3) (pos 128) v) _ h in
+    let a = or-false (outside (pos LeastVertices) (pos MostVertices) v) _ h in
     let b = or-false (odd e) _ (a .1) in
-    let d = or-false (outside (pos 6) (pos 756) e) (outside (pos 2) (pos 252) f) (b .1) in
-    (not-negative 3 128 v (a .0), (not-negative 6 756 e (d .0), not-negative 2 252 f (d .1)))
+    let d = or-false (outside (pos LeastHalfEdges) (pos MostHalfEdges) e) (outside (pos LeastFaces) (pos MostFaces) f) (b .1) in
+    (not-negative LeastVertices MostVertices v (a .0), (not-negative LeastHalfEdges MostHalfEdges e (d .0), not-negative LeastFaces MostFaces f (d .1)))
 
 -- ---- 6
 below : (n : ℕ) (z : ℤ) → notBelow n z ≡ false → unsigned z < n

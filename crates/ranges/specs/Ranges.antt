@@ -12,13 +12,32 @@ use Rattle.geometry.specs.Plane.{offGrid}
 use Rattle.chart.specs.Tables.{rows, placeOf, valueOf}
 
 -- ---- 4: vertices not 3 to 128; half-edges odd or not 6 to 756; faces not 2 to 252
+abbrev pub LeastVertices : ℕ
+LeastVertices = 3
+
+abbrev pub MostVertices : ℕ
+MostVertices = 128
+
+abbrev pub LeastHalfEdges : ℕ
+LeastHalfEdges = 6
+
+abbrev pub MostHalfEdges : ℕ
+MostHalfEdges = 756
+
+abbrev pub LeastFaces : ℕ
+LeastFaces = 2
+
+abbrev pub MostFaces : ℕ
+MostFaces = 252
+
 abbrev pub odd : ℤ → Bool
 odd z = not (eqb (natAbs z % 2) 0)
 
 unfoldable pub countsRefused : ℤ → ℤ → ℤ → Bool
 countsRefused vertices halfEdges faces =
-    outside (pos 3) (pos 128) vertices
-    || (odd halfEdges || (outside (pos 6) (pos 756) halfEdges || outside (pos 2) (pos 252) faces))
+    outside (pos LeastVertices) (pos MostVertices) vertices
+    || (odd halfEdges
+    || (outside (pos LeastHalfEdges) (pos MostHalfEdges) halfEdges || outside (pos LeastFaces) (pos MostFaces) faces))
 
 -- ---- 6: a number of a vertex, half-edge or face negative or not below its count
 unfoldable pub notBelow : ℕ → ℤ → Bool

@@ -13,10 +13,10 @@ use Rattle.chart.specs.Tables.{unsigned, unsignedAll}
 use Rattle.ranges.specs.Ranges.{countsRefused}
 use Rattle.ranges.specs.Passed.{Counted, counted, passed-positive}
 use Rattle.checks.specs.Checks.{tablesRefusal, told}
-use Rattle.checks.specs.Checks.Loaded.{refused}
+use Rattle.checks.specs.Checks.Loaded.{loaded, refused}
 use Rattle.reading.specs.declared.Head.{Head}
 use Rattle.reading.specs.declared.Head.the-variants.{Refused, Counts}
-use Rattle.reading.specs.Reading.{pickHead, countsOf, headLine, headLength, headOf, fileLength, Body, pickBody, three, bodyOf, loadBody, loadOf, refusalOf, afterHead, chartRefusalOf}
+use Rattle.reading.specs.Reading.{pickHead, countsOf, headLine, headLength, headOf, fileLength, Body, pickBody, three, bodyOf, loadBody, loadOf, refusalOf, afterHead, chartIn}
 use Rattle.reading.specs.Reading.Body.{body, malformed}
 
 never : {X : Type 0} → _≡_ {A = ℕ} 0 1 → X
@@ -102,10 +102,20 @@ load-refusal v e f s n q z =
     q z
 
 -- ---- the whole file, by its head
-pub refusal-head : (s : List ℕ) (n : ℕ) → headOf s ≡ Refused n → chartRefusalOf s ≡ n
-unfolding chartRefusalOf
-refusal-head s n q = ap (λ (h : Head). afterHead h s) q
+pub chart-head : (s : List ℕ) (n : ℕ) → headOf s ≡ Refused n → chartIn s ≡ refused n
+unfolding chartIn
+chart-head s n q = ap (λ (h : Head). afterHead h s) q
 
-pub refusal-body : (s : List ℕ) (v e f : ℕ) → headOf s ≡ Counts v e f → chartRefusalOf s ≡ refusalOf (loadOf v e f s)
-unfolding chartRefusalOf
-refusal-body s v e f q = ap (λ (h : Head). afterHead h s) q
+pub chart-body : (s : List ℕ) (v e f : ℕ) → headOf s ≡ Counts v e f → chartIn s ≡ loadOf v e f s
+unfolding chartIn
+chart-body s v e f q = ap (λ (h : Head). afterHead h s) q
+
+-- a reader that said 0 has said the tables
+pub told-zero : (r : ℕ) (vs : List ℤ) (es fs : List ℕ) → r ≡ 0 → told r vs es fs ≡ loaded vs es fs
+told-zero zero vs es fs e = refl
+told-zero (suc r) vs es fs e = let o : ⊥ = omega arith in absurd o
+
+-- and another number is its refusal
+pub told-other : (r : ℕ) (vs : List ℤ) (es fs : List ℕ) → (r ≡ 0 → ⊥) → told r vs es fs ≡ refused r
+told-other zero vs es fs n = absurd (n refl)
+told-other (suc r) vs es fs n = refl

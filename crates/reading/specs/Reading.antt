@@ -71,14 +71,18 @@ loadBody (malformed n) = refused n
 unfoldable pub loadOf : ℕ → ℕ → ℕ → List ℕ → Loaded
 loadOf v e f s = loadBody (bodyOf v e f s)
 
+-- ---- the whole file: the tables that the bytes hold, or the first of 3, 5, 4, 3, 5, 6 to 11 that meets them
+abbrev pub afterHead : Head → List ℕ → Loaded
+afterHead (Refused n) s = refused n
+afterHead (Counts v e f) s = loadOf v e f s
+
+unfoldable pub chartIn : List ℕ → Loaded
+chartIn s = afterHead (headOf s) s
+
+-- the refusal's number, or 0
 abbrev pub refusalOf : Loaded → ℕ
 refusalOf (loaded vs es fs) = 0
 refusalOf (refused n) = n
 
--- ---- the whole file: the first of 3, 5, 4, 3, 5, 6 to 11 that meets the bytes, or 0
-abbrev pub afterHead : Head → List ℕ → ℕ
-afterHead (Refused n) s = n
-afterHead (Counts v e f) s = refusalOf (loadOf v e f s)
-
-unfoldable pub chartRefusalOf : List ℕ → ℕ
-chartRefusalOf s = afterHead (headOf s) s
+abbrev pub chartRefusalOf : List ℕ → ℕ
+chartRefusalOf s = refusalOf (chartIn s)

@@ -13,7 +13,7 @@ use Rattle.links.specs.Links.{linked, linksBroken}
 use Rattle.checks.specs.Checks.{chartRefusal, tablesRefusal}
 use Rattle.checks.specs.Checks.Loaded.{loaded}
 use Rattle.reading.specs.declared.Head.the-variants.{Counts}
-use Rattle.reading.specs.Reading.{countsOf, headOf, bodyOf, loadOf, chartRefusalOf}
+use Rattle.reading.specs.Reading.{countsOf, headOf, bodyOf, loadOf, chartIn, chartRefusalOf}
 use Rattle.rim.specs.TriangleA.{fileA, verticesA, edgesA, facesA}
 
 -- the byte in a row of vertices, half-edges or faces: 25 bytes of line 1, then 33 a line; column k
@@ -25,7 +25,7 @@ pub record Rows : Type 0 where
   pub size : length fileA ≡ 340
   pub accepted : chartRefusalOf fileA ≡ 0
   pub counts : headOf fileA ≡ Counts 3 6 2
-  pub tables : loadOf 3 6 2 fileA ≡ loaded verticesA edgesA facesA
+  pub tables : chartIn fileA ≡ loaded verticesA edgesA facesA
   -- 3: no bytes, 24 bytes, one byte more than the counts give
   pub empty : chartRefusalOf [] ≡ 3
   pub short : chartRefusalOf (take 24 fileA) ≡ 3
@@ -49,7 +49,7 @@ pub record Rows : Type 0 where
   pub right-turn : chartRefusalOf (set fileA (at 2 13) 45) ≡ 9
 
 pub rows : Rows
-unfolding fileA verticesA edgesA facesA from eqs spacesOf digitsOf columns lastDigit fieldText valueOf candidate fieldOf lineOf tableOf offGrid crossOf norm2Of side lifted circle countsRefused notBelow badVertex badHalfEdge badFace outOfRange linked linksBroken chartRefusal tablesRefusal countsOf headOf bodyOf loadOf chartRefusalOf
+unfolding fileA verticesA edgesA facesA from eqs spacesOf digitsOf columns lastDigit fieldText valueOf candidate fieldOf lineOf tableOf offGrid crossOf norm2Of side lifted circle countsRefused notBelow badVertex badHalfEdge badFace outOfRange linked linksBroken chartRefusal tablesRefusal countsOf headOf bodyOf loadOf chartIn
 rows =
     record {
       size = refl;

@@ -1,2 +1,3 @@
 pub mod TriangleA
 pub mod Checked
+pub mod Loads

@@ -11,9 +11,9 @@ ghost use Rattle.weights.specs.Barycentric.{twoPointInterpolation, baryc
 
 // The vertices in the Rust's order, each with its weight after it; or the number of a refusal.
 pub enum BarycentricWeights {
-    OneVertex(usize, f64),
-    TwoWeights(usize, f64, usize, f64),
-    ThreeWeights(usize, f64, usize, f64, usize, f64),
+    OneVertex(u64, f64),
+    TwoWeights(u64, f64, u64, f64),
+    ThreeWeights(u64, f64, u64, f64, u64, f64),
     Refused(u64),
 }
 
@@ -78,7 +78,7 @@ fn weigh_two(
     let p0 = points::position(vertices, edges, faces, v0);
     let p1 = points::position(vertices, edges, faces, v1);
     let w = two_point_interpolation(p0, p1, points::point_of(q));
-    BarycentricWeights::TwoWeights(v0, w.w0, v1, w.w1)
+    BarycentricWeights::TwoWeights(v0 as u64, w.w0, v1 as u64, w.w1)
 }
 
 // Three vertices with their weights at q.
@@ -98,14 +98,14 @@ fn weigh_three(
     let p1 = points::position(vertices, edges, faces, v1);
     let p2 = points::position(vertices, edges, faces, v2);
     let w = barycentric_interpolation(p0, p1, p2, points::point_of(q));
-    BarycentricWeights::ThreeWeights(v0, w.c0, v1, w.c1, v2, w.c2)
+    BarycentricWeights::ThreeWeights(v0 as u64, w.c0, v1 as u64, w.c1, v2 as u64, w.c2)
 }
 
 // On vertex v.
 pub fn vertex_weights(v: usize) -> BarycentricWeights
     ensures { λ r. ⌜ r ≡ vertexWeights v ⌝ }
 {
-    BarycentricWeights::OneVertex(v, 1.0)
+    BarycentricWeights::OneVertex(v as u64, 1.0)
 }
 
 // On half-edge h: from where it starts to where its partner does.
