@@ -5,6 +5,7 @@
                                       answers.txt (by `oracle suite --only KINDS DIR`) to OUT/stdout; OUT/names has a name for each case.
                                       NAME: patterns such as 'd*', all folders where there is none.
                                       The queries and the rooms have length 0 unless the options ask for them
+    pack.py limit DIR N               cuts each queries.txt of DIR to its first N queries (gen.py shuffles them), before the oracle answers
     pack.py unpack FILE DIR           the cases of a packed file as case folders 00000, 00001, .. of DIR
     pack.py where OUT BYTE            the case to which a byte of OUT/stdout belongs
     pack.py feed FILE PROGRAM..       runs a program with FILE as its standard input, in pieces of 1 to 99 bytes
@@ -53,6 +54,12 @@ def pack(d, out, patterns, texts):
     print('%d cases, %d bytes; verdicts: %s' % (sum(count.values()), len(stdin), ', '.join('%d: %d' % p for p in sorted(count.items()))))
 
 
+def limit(d, n):
+    for name in os.listdir(d):
+        lines = read(d, name, 'queries.txt').splitlines(True)
+        if len(lines) > n: write(b''.join(lines[:n]), d, name, 'queries.txt')
+
+
 def unpack(path, d):
     b, at, n = read(path), 0, 0
     while at < len(b):
@@ -91,6 +98,7 @@ if __name__ == '__main__':
     a = [w for w in sys.argv[1:] if w not in ('--queries', '--rooms')]
     if a[:1] == ['pack'] and len(a) > 2:
         pack(a[1], a[2], a[3:], [t for t in TEXTS if t == TEXTS[0] or '--' + t[:-4] in sys.argv])
+    elif a[:1] == ['limit'] and len(a) == 3: limit(a[1], int(a[2]))
     elif a[:1] == ['unpack'] and len(a) == 3: unpack(a[1], a[2])
     elif a[:1] == ['where'] and len(a) == 3: where(a[1], int(a[2]))
     elif a[:1] == ['feed'] and len(a) > 2: sys.exit(feed(a[1], a[2:]))

@@ -1,18 +1,29 @@
 -- Laws of the definitions of specs/.
-use Prim.Native.Nat.{ℕ, zero, suc, _+_, _<_, _≤_}
+use Prim.Native.Nat.{ℕ, zero, suc, _+_, _-_, _^_, _<_, _≤_}
 use mathlib.Core.List.{List, [], _++_}
-use mathlib.Core.Bool.{true, false}
-use mathlib.Core.Path.{_≡_, refl}
+use mathlib.Core.Bool.{true, false, not, true≢false}
+use mathlib.Core.Path.{_≡_, refl, ap, sym}
 use native.Mathlib.Omega.{arith}
-use lib.ListN.{length, take}
-use lib.Dec.{T}
+use native.Mathlib.Nat.{pow-le-pow-right, zero-add}
+use native.Mathlib.Numerals.{add-one, sub-one}
+use lib.ListN.{length, take, drop, getD, drop-of-length-le}
+use lib.Seq.{drop-cons}
+use lib.Dec.{T, eqb, lit<}
+use lib.Ieee.{Float, nan, inf, fin, eq, isNan}
 use lib.Signed.{ltZ, nonNeg}
-use lib.IntN.{ℤ, pos, negsuc, natAbs}
-use borrow.Author.Tests.{ltb-true, le-leb, lt-leb, eq-eqb, ne-eqb}
+use lib.IntN.{ℤ, pos, negsuc, natAbs, negℤ, _-ℤ_}
+use mir.Syntax.{w64}
+use mir.Val.{SFits}
+use borrow.Author.Tests.{ltb-true, le-ltb, le-leb, lt-leb, eq-eqb, ne-eqb}
 use Rattle.tables.specs.Table.{Cells, lineOf}
+use Rattle.text.specs.declared.Field.{Field}
+use Rattle.text.specs.declared.Field.the-variants.{Number, Malformed}
 use Rattle.answers.specs.declared.packed.Header.the-variants.{Broken}
+use Rattle.answers.specs.declared.queries.Query.the-variants.{NoQuery}
+use Rattle.answers.specs.Decimal.{mostDigits, noMagnitude, digitsMake, magnitudeOf, aboveOf, belowOf, decimalOf}
 use Rattle.answers.specs.Header.{limit, sizeOf, headerLine, headerOf}
 use Rattle.answers.specs.Path.{pathOf}
+use Rattle.answers.specs.Query.{untilOf, pairOf, queryOf}
 
 pub size-neg : (z : ℤ) → ltZ z (pos 0) ≡ true → sizeOf z ≡ limit
 size-neg (pos n) e = let f : ⊥ = omega (arith, ltb-true n 0 e) in absurd f
@@ -48,3 +59,104 @@ pub path-whole : (s : List ℕ) (n : ℕ) (f : List ℕ) → 0 < n → n + lengt
 unfolding pathOf
 path-whole s zero f p h = let e : ⊥ = omega arith in absurd e
 path-whole s (suc n) f p h = rw (le-leb (suc n + length f) (length s) h) refl
+
+-- ---- decimal
+
+-- No digit.
+pub magnitude-none : (d : List ℕ) → length d ≡ 0 → magnitudeOf d ≡ noMagnitude
+unfolding magnitudeOf
+magnitude-none d h = rw (eq-eqb (length d) 0 h) refl
+
+-- More digits than any i64 has.
+pub magnitude-long : (d : List ℕ) → mostDigits < length d → magnitudeOf d ≡ noMagnitude
+unfolding magnitudeOf
+magnitude-long d h = rw (ne-eqb (length d) 0 (λ e. omega arith), lt-leb (length d) mostDigits h) refl
+
+-- 1 to 19 bytes.
+pub magnitude-some : (d : List ℕ) → (length d ≡ 0 → ⊥) → length d ≤ mostDigits → magnitudeOf d ≡ digitsMake d
+unfolding magnitudeOf
+magnitude-some d h l = rw (ne-eqb (length d) 0 h, le-leb (length d) mostDigits l) refl
+
+-- Where a digit may follow, the number is small enough for it.
+pub magnitude-room : (i v : ℕ) → i < mostDigits → v < 10 ^ i → v < 10 ^ 18
+magnitude-room i v h b = omega (arith, pow-le-pow-right {n = 10} (lit< tt) {i = i} {j = 18} (omega arith))
+
+-- What a minus sign makes of a magnitude.
+pub below-none : (n : ℕ) → n ≡ 0 → belowOf n ≡ Number (pos 0)
+below-none zero h = refl
+below-none (suc n) h = absurd (omega arith)
+
+-- One below 0, and down from there.
+pub below-number : (n : ℕ) → (n ≡ 0 → ⊥) → negsuc 0 -ℤ pos (n - 1) ≡ negℤ (pos n)
+below-number zero h = absurd (h refl)
+below-number (suc zero) h = refl
+below-number (suc (suc m)) h = rw (sub-one (suc (suc m))) (ap (λ (k : ℕ). negsuc (suc k)) (zero-add m))
+
+pub below-fits : (n : ℕ) → n ≤ 2 ^ 63 → SFits w64 (negℤ (pos n))
+below-fits zero h = record { sfits = lit< tt }
+below-fits (suc m) h = record { sfits = omega arith }
+
+pub decimal-minus : (s : List ℕ) → eqb (getD s 0 0) 45 ≡ true → decimalOf s ≡ belowOf (magnitudeOf (drop 1 s))
+unfolding decimalOf
+decimal-minus s e = rw e refl
+
+pub decimal-plain : (s : List ℕ) → eqb (getD s 0 0) 45 ≡ false → decimalOf s ≡ aboveOf (magnitudeOf s)
+unfolding decimalOf
+decimal-plain s e = rw e refl
+
+pub decimal-none : decimalOf [] ≡ Malformed
+unfolding decimalOf magnitudeOf
+decimal-none = refl
+
+-- ---- queries
+
+-- The byte that is looked for.
+pub until-hit : (b : ℕ) (s : List ℕ) (i : ℕ) → i < length s → getD s i 0 ≡ b → untilOf b (drop i s) ≡ 0
+unfolding untilOf
+until-hit b s i h e = rw (drop-cons s i 0 h, eq-eqb (getD s i 0) b e)
+
+-- Another byte.
+pub until-miss : (b : ℕ) (s : List ℕ) (i : ℕ) → i < length s → (getD s i 0 ≡ b → ⊥) → untilOf b (drop i s) ≡ suc (untilOf b (drop (suc i) s))
+unfolding untilOf
+until-miss b s i h e = rw (drop-cons s i 0 h, ne-eqb (getD s i 0) b e)
+
+-- No byte more.
+pub until-none : (b : ℕ) → untilOf b [] ≡ 0
+unfolding untilOf
+until-none b = refl
+
+-- A line whose second number is broken.
+pair-broken : (f : Field) → pairOf f Malformed ≡ NoQuery
+pair-broken (Number x) = refl
+pair-broken Malformed = refl
+
+-- A line with no space.
+pub query-one : (s : List ℕ) → untilOf 32 s ≡ length s → queryOf s ≡ NoQuery
+unfolding queryOf
+query-one s e =
+    let d : drop (suc (length s)) s ≡ [] = drop-of-length-le s {i = suc (length s)} (omega arith) in
+    rw (e, d, decimal-none) (pair-broken (decimalOf (take (length s) s)))
+
+-- A line with one.
+pub query-two : (s : List ℕ) (n : ℕ) → untilOf 32 s ≡ n → queryOf s ≡ pairOf (decimalOf (take n s)) (decimalOf (drop (n + 1) s))
+unfolding queryOf
+query-two s n e = rw (e, add-one n) refl
+
+-- ---- print
+
+-- How far a number below 0 is from one below it.
+pub from-minus-one : (z : ℤ) → ltZ z (pos 0) ≡ true → negsuc 0 -ℤ z ≡ pos (natAbs z - 1)
+from-minus-one (pos n) e = let f : ⊥ = omega (arith, ltb-true n 0 e) in absurd f
+from-minus-one (negsuc n) e = rw (le-ltb (suc n) 1 (omega arith)) refl
+
+-- A magnitude below 0.
+pub natAbs-below : (z : ℤ) → ltZ z (pos 0) ≡ true → SFits w64 z → (0 < natAbs z) × (natAbs z ≤ 2 ^ 63)
+natAbs-below (pos n) e f = let g : ⊥ = omega (arith, ltb-true n 0 e) in absurd g
+natAbs-below (negsuc n) e f = omega (arith, f .sfits)
+
+-- A float that equals itself is a number.
+pub equals-itself : (x : Float) → eq x x ≡ true → T (not (isNan x))
+unfolding eq isNan
+equals-itself nan e = absurd (true≢false (sym e))
+equals-itself (inf s) e = tt
+equals-itself (fin s m k) e = tt

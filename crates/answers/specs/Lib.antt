@@ -1,2 +1,4 @@
+pub mod Decimal
 pub mod Header
 pub mod Path
+pub mod Query

@@ -5,20 +5,21 @@ ghost use lib.ListN.{length, take};
 ghost use lib.Seq.{paste};
 ghost use Rattle.io.specs.Counts.{Counts};
 ghost use Rattle.answers.specs.Path.{pathOf};
-use crate::print;
+use crate::case;
 
-pub fn cases(space: &mut [u8]) {
+pub fn cases(chart_space: &mut [u8], query_space: &mut [u8]) {
     let count = os::arg_count();
     let mut i = 1;
     while i < count {
-        case(i, space);
+        folder(i, chart_space, query_space);
         i += 1;
     }
 }
 
-fn case(i: usize, space: &mut [u8]) {
-    let n = read_text(i, b"/chart.txt", space);
-    print::verdict(estivolh::check(&space[..n]));
+fn folder(i: usize, chart_space: &mut [u8], query_space: &mut [u8]) {
+    let chart = read_text(i, b"/chart.txt", chart_space);
+    let queries = read_text(i, b"/queries.txt", query_space);
+    case::answers(&chart_space[..chart], &query_space[..queries]);
 }
 
 // Reads a file of the folder that argument i names, or as much of it as `space` holds. A file that is missing or cannot be read counts

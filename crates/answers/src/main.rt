@@ -1,14 +1,18 @@
 // Prints the answers of the public calls for test cases, in the oracle's format (oracle/README.md): for each case folder among its
 // arguments or, with no argument, for each packed case on standard input.
+mod case;
+mod decimal;
 mod folder;
 mod packed;
 mod print;
+mod queries;
 
 fn main() {
-    let mut space = io::large_buffer();
+    let mut chart_space = io::large_buffer();
+    let mut query_space = io::large_buffer();
     if os::arg_count() < 2 {
-        packed::cases(&mut space);
+        packed::cases(&mut chart_space, &mut query_space);
     } else {
-        folder::cases(&mut space);
+        folder::cases(&mut chart_space, &mut query_space);
     }
 }

@@ -2,6 +2,7 @@
 ghost use mathlib.Core.Path.{_≡_};
 ghost use Prim.Native.Nat.{_≤_, min};
 ghost use Rattle.answers.specs.Header.{sizeOf, sizesOf, headerOf};
+use crate::case;
 use crate::print;
 use libc::STDIN_FILENO;
 
@@ -15,15 +16,15 @@ enum Header {
 }
 
 // A proved loop has to end, and nothing says that the input does. So this one counts its turns down, from a number that no run uses up.
-pub fn cases(space: &mut [u8]) {
+pub fn cases(chart_space: &mut [u8], query_space: &mut [u8]) {
     let mut turns = u64::MAX;
-    while turns > 0 && next_case(space) {
+    while turns > 0 && next_case(chart_space, query_space) {
         turns -= 1;
     }
 }
 
 // Answers the next case. Whether to go on.
-fn next_case(space: &mut [u8]) -> bool {
+fn next_case(chart_space: &mut [u8], query_space: &mut [u8]) -> bool {
     let mut line = [0u8; 25];
     let n = io::read_full(STDIN_FILENO, &mut line);
     if n == 0 {
@@ -32,7 +33,7 @@ fn next_case(space: &mut [u8]) -> bool {
     let header = read_header(&line[..n]);
     match header {
         Header::Sizes(chart, queries, rooms) => {
-            if answer(space, chart, queries, rooms) {
+            if answer(chart_space, query_space, chart, queries, rooms) {
                 return true;
             }
             print::broken_case();
@@ -85,25 +86,43 @@ fn sizes(chart: usize, queries: usize, rooms: usize) -> Header
     Header::Sizes(chart, queries, rooms)
 }
 
-// Answers a case, if all its bytes are there. A chart longer than `space` is cut: it is longer than any chart, and so is its first part.
-fn answer(space: &mut [u8], chart: usize, queries: usize, rooms: usize) -> bool {
-    let kept = least(chart, space.len());
+// Answers a case of texts of these sizes, if all their bytes are there.
+fn answer(
+    chart_space: &mut [u8],
+    query_space: &mut [u8],
+    chart: usize,
+    queries: usize,
+    rooms: usize,
+) -> bool {
+    if !read_text(chart_space, chart) {
+        return false;
+    }
+    if !read_text(query_space, queries) {
+        return false;
+    }
+    // no call needs the rooms yet
+    if !skip_text(rooms) {
+        return false;
+    }
+    let c = least(chart, chart_space.len());
+    let q = least(queries, query_space.len());
+    case::answers(&chart_space[..c], &query_space[..q]);
+    true
+}
+
+// Reads a text of this size, or as much of it as `space` holds, and passes over the rest. Whether all of it was there.
+// A chart that is cut so is longer than any chart, and so is its first part.
+fn read_text(space: &mut [u8], size: usize) -> bool {
+    let kept = least(size, space.len());
     if io::read_full(STDIN_FILENO, &mut space[..kept]) < kept {
         return false;
     }
-    let number = estivolh::check(&space[..kept]);
-    if !skip(space, chart - kept) {
-        return false;
-    }
-    // no call needs these two yet
-    if !skip(space, queries) {
-        return false;
-    }
-    if !skip(space, rooms) {
-        return false;
-    }
-    print::verdict(number);
-    true
+    skip_text(size - kept)
+}
+
+fn skip_text(size: usize) -> bool {
+    let mut space = io::buffer();
+    skip(&mut space, size)
 }
 
 // Passes over the next `size` bytes of the input. Whether they were there.

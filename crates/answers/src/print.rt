@@ -1,17 +1,117 @@
-// The lines of the answers.
+// The lines of the answers: a function for each kind.
+ghost use mathlib.Core.Path.{_≡_};
+ghost use lib.IntN.{natAbs};
+use estivolh::PositionInTriangulation;
 use libc::STDOUT_FILENO;
+use weights::BarycentricWeights;
 
 pub fn verdict(number: u64) {
-    io::write_all(STDOUT_FILENO, b"verdict ");
-    io::print_decimal(STDOUT_FILENO, number);
-    io::write_all(STDOUT_FILENO, b"\n");
+    ending(b"verdict ", number);
+}
+
+pub fn query(x: i64, y: i64) {
+    word(b"query ");
+    signed(x);
+    word(b" ");
+    signed(y);
+    word(b"\n");
+}
+
+pub fn location(place: PositionInTriangulation) {
+    word(b"location ");
+    match place {
+        PositionInTriangulation::OnVertex(v) => ending(b"vertex ", v),
+        PositionInTriangulation::OnEdge(h) => ending(b"edge ", h),
+        PositionInTriangulation::OnFace(f) => ending(b"face ", f),
+        PositionInTriangulation::OutsideOfConvexHull(h) => ending(b"outside ", h),
+        PositionInTriangulation::Refused(n) => ending(b"refused ", n),
+    }
+}
+
+pub fn barycentric(weights: BarycentricWeights) {
+    word(b"barycentric ");
+    match weights {
+        BarycentricWeights::OneVertex(u, a) => {
+            word(b"1");
+            weight(u, a);
+            word(b"\n");
+        }
+        BarycentricWeights::TwoWeights(u, a, v, b) => {
+            word(b"2");
+            weight(u, a);
+            weight(v, b);
+            word(b"\n");
+        }
+        BarycentricWeights::ThreeWeights(u, a, v, b, w, c) => {
+            word(b"3");
+            weight(u, a);
+            weight(v, b);
+            weight(w, c);
+            word(b"\n");
+        }
+        BarycentricWeights::Refused(n) => ending(b"refused ", n),
+    }
 }
 
 // What takes the place of answers where the packed input cannot be followed any further.
 pub fn broken_header() {
-    io::write_all(STDOUT_FILENO, b"broken header\n");
+    word(b"broken header\n");
 }
 
 pub fn broken_case() {
-    io::write_all(STDOUT_FILENO, b"broken case\n");
+    word(b"broken case\n");
+}
+
+// What takes the place of the answers to a query that is malformed, and to those after it.
+pub fn broken_queries() {
+    word(b"broken queries\n");
+}
+
+fn word(text: &[u8]) {
+    io::write_all(STDOUT_FILENO, text);
+}
+
+fn natural(n: u64) {
+    io::print_decimal(STDOUT_FILENO, n);
+}
+
+// The end of a line: a word and a number.
+fn ending(text: &[u8], n: u64) {
+    word(text);
+    natural(n);
+    word(b"\n");
+}
+
+// A vertex and its weight, within a line.
+fn weight(vertex: u64, value: f64) {
+    word(b" ");
+    natural(vertex);
+    word(b" ");
+    bits(value);
+}
+
+// A float as its 64 bits. A not-a-number has no bits of its own.
+fn bits(x: f64) {
+    if x == x {
+        natural(f64::to_bits(x));
+    } else {
+        word(b"nan");
+    }
+}
+
+fn signed(z: i64) {
+    if z < 0 {
+        word(b"-");
+    }
+    natural(magnitude(z));
+}
+
+fn magnitude(z: i64) -> u64
+    ensures { λ r. ⌜ r ≡ natAbs z ⌝ }
+{
+    if z < 0 {
+        // 1 is added last: the magnitude of the least number is no i64
+        return (-1 - z) as u64 + 1;
+    }
+    z as u64
 }

@@ -1,2 +1,4 @@
 pub mod Location
 pub mod Weights
+pub mod Gradient
+pub mod Natural

@@ -4,12 +4,20 @@ use locate::Location;
 use reading::Head;
 use weights::BarycentricWeights;
 ghost use mathlib.Core.Path.{_≡_};
-ghost use lib.ListN.{length};
+ghost use mathlib.Core.List.{_++_};
+ghost use Prim.Native.Nat.{_≤_};
+ghost use lib.ListN.{length, drop};
 ghost use Rattle.geometry.specs.Plane.{OnGrid};
+ghost use Rattle.chart.specs.Tables.{rows};
 ghost use Rattle.chart.specs.Chart.{chartOf, InRange};
 ghost use Rattle.ranges.specs.Passed.{Counted};
 ghost use Rattle.locate.specs.Location.{locationOf};
 ghost use Rattle.reading.specs.Reading.{loadOf, refusalOf, chartRefusalOf};
+ghost use Rattle.gradient.specs.Gradient.{Valued};
+ghost use Rattle.estivolh.specs.Gradient.{gradientSays, gradientOn, gradientIn, estimateOf};
+ghost use Rattle.accepted.specs.Accepted.{Accepted};
+ghost use Rattle.locate.specs.Laws.{Holds};
+ghost use Rattle.estivolh.specs.Natural.{neighborsSay, placeRefusal, edgesLeft, edgesAt, edgesOn, edgesIn, naturalEdgesOf, settledTally, sharesLeft, sharesAt, sharesOn, sharesIn, naturalSharesOf};
 ghost use Rattle.estivolh.specs.Location.{positionSays, placed, locateOn, locateIn, locateOf};
 ghost use Rattle.estivolh.specs.Weights.{weightsSay, barycentricAt, barycentricOn, barycentricIn, barycentricOf};
 
@@ -177,5 +185,273 @@ pub fn barycentric_weights(chart: &[u8], x: i64, y: i64) -> BarycentricWeights
     match head {
         Head::Refused(n) => BarycentricWeights::Refused(n),
         Head::Counts(v, e, f) => weights_in(chart, v, e, f, Place { x, y }),
+    }
+}
+
+// The gradient's two components, or the refusal.
+pub enum EstimatedGradient {
+    Components(f64, f64),
+    Refused(u64),
+}
+
+// On checked tables: 12, then the gradient.
+fn gradient_on(vertices: &[i64], edges: &[usize], faces: &[usize], v: usize) -> EstimatedGradient
+    requires { ⌜ InRange (chartOf (now vertices) (now edges) (now faces)) ⌝ ∗ ⌜ Valued (chartOf (now vertices) (now edges) (now faces)) ⌝ }
+    ensures { λ r. ⌜ gradientSays r ≡ gradientOn (chartOf (now (vertices .entry)) (now (edges .entry)) (now (faces .entry))) v ⌝ }
+{
+    if v < vertices.len() / 4 {
+        let g = gradient::estimate_gradient(vertices, edges, faces, v);
+        return EstimatedGradient::Components(g.x, g.y);
+    }
+    EstimatedGradient::Refused(12)
+}
+
+// In the body of a chart whose head has these counts.
+fn gradient_in(chart: &[u8], v: usize, e: usize, f: usize, vertex: usize) -> EstimatedGradient
+    requires { ⌜ Counted v e f ⌝ }
+    ensures { λ r. ⌜ gradientSays r ≡ gradientIn (loadOf v e f (now (chart .entry))) vertex ⌝ }
+{
+    let mut vertices = vertex_room();
+    let mut edges = edge_room();
+    let mut faces = face_room();
+    let refusal = reading::load(chart, v, e, f, &mut vertices, &mut edges, &mut faces);
+    if refusal != 0 {
+        return EstimatedGradient::Refused(refusal);
+    }
+    let a = 4 * v;
+    let b = 4 * e;
+    gradient_on(&vertices[..a], &edges[..b], &faces[..f], vertex)
+}
+
+// The gradient at a vertex of a chart.
+pub fn estimate_gradient(chart: &[u8], vertex: u64) -> EstimatedGradient
+    ensures { λ r. ⌜ gradientSays r ≡ estimateOf (now (chart .entry)) vertex ⌝ }
+{
+    let head = reading::read_head(chart);
+    match head {
+        Head::Refused(n) => EstimatedGradient::Refused(n),
+        Head::Counts(v, e, f) => gradient_in(chart, v, e, f, vertex as usize),
+    }
+}
+
+// How many edges or weights were written, and how many faces were opened; or the refusal.
+pub enum NaturalNeighbors {
+    Listed(u64, u64),
+    Refused(u64),
+}
+
+// Room for the longest list of half-edges.
+fn list_room() -> [usize; 756]
+    ensures { λ r. ⌜ length r ≡ 756 ⌝ }
+{
+    [0usize; 756]
+}
+
+// 14 for a load outside the hull, 15 for one without a place, else 0.
+fn place_refusal(place: Location) -> u64
+    ensures { λ r. ⌜ r ≡ placeRefusal place ⌝ }
+{
+    match place {
+        Location::OnVertex(_) => 0,
+        Location::OnEdge(_) => 0,
+        Location::OnFace(_) => 0,
+        Location::OutsideOfConvexHull(_) => 14,
+        Location::NoPlace => 15,
+    }
+}
+
+// A list into the first elements of a lent slice.
+fn copy_list(list: &[usize], out: &mut [u64])
+    requires { ⌜ length (now list) ≤ length (now out) ⌝ }
+    ensures { λ r. ⌜ now (out .exit) ≡ now (list .entry) ++ drop (length (now (list .entry))) (now (out .entry)) ⌝ }
+{
+    let mut i = 0;
+    while i < list.len() {
+        out[i] = list[i] as u64;
+        i += 1;
+    }
+}
+
+// At a location that was found: the edges found, then copied out.
+fn edges_at(
+    vertices: &[i64],
+    edges: &[usize],
+    faces: &[usize],
+    q: Place,
+    place: Location,
+    out: &mut [u64],
+) -> NaturalNeighbors
+    requires { ⌜ Accepted (chartOf (now vertices) (now edges) (now faces)) ⌝ ∗ ⌜ OnGrid q ⌝ ∗ ⌜ Holds (chartOf (now vertices) (now edges) (now faces)) q place ⌝ ∗ ⌜ rows (now edges) ≤ length (now out) ⌝ }
+    ensures { λ r. ⌜ edgesLeft (neighborsSay r) (now (out .exit)) ≡ edgesAt (chartOf (now (vertices .entry)) (now (edges .entry)) (now (faces .entry))) q place (now (out .entry)) ⌝ }
+{
+    let mut list = list_room();
+    let found = neighbors::get_natural_neighbor_edges(vertices, edges, faces, q, place, &mut list);
+    let n = found.count;
+    copy_list(&list[..n], out);
+    NaturalNeighbors::Listed(n as u64, found.opened as u64)
+}
+
+// On checked tables: 13, 14, 15, then the edges.
+fn edges_on(
+    vertices: &[i64],
+    edges: &[usize],
+    faces: &[usize],
+    q: Place,
+    out: &mut [u64],
+) -> NaturalNeighbors
+    requires { ⌜ Accepted (chartOf (now vertices) (now edges) (now faces)) ⌝ ∗ ⌜ rows (now edges) ≤ length (now out) ⌝ }
+    ensures { λ r. ⌜ edgesLeft (neighborsSay r) (now (out .exit)) ≡ edgesOn (chartOf (now (vertices .entry)) (now (edges .entry)) (now (faces .entry))) q (now (out .entry)) ⌝ }
+{
+    if geometry::off_grid(q) {
+        return NaturalNeighbors::Refused(13);
+    }
+    let place = locate::locate(vertices, edges, faces, q);
+    let refusal = place_refusal(place);
+    if refusal != 0 {
+        return NaturalNeighbors::Refused(refusal);
+    }
+    edges_at(vertices, edges, faces, q, place, out)
+}
+
+// In the body of a chart whose head has these counts.
+fn edges_in(
+    chart: &[u8],
+    v: usize,
+    e: usize,
+    f: usize,
+    q: Place,
+    out: &mut [u64],
+) -> NaturalNeighbors
+    requires { ⌜ Counted v e f ⌝ ∗ ⌜ e ≤ length (now out) ⌝ }
+    ensures { λ r. ⌜ edgesLeft (neighborsSay r) (now (out .exit)) ≡ edgesIn (loadOf v e f (now (chart .entry))) q (now (out .entry)) ⌝ }
+{
+    let mut vertices = vertex_room();
+    let mut edges = edge_room();
+    let mut faces = face_room();
+    let refusal = reading::load(chart, v, e, f, &mut vertices, &mut edges, &mut faces);
+    if refusal != 0 {
+        return NaturalNeighbors::Refused(refusal);
+    }
+    let a = 4 * v;
+    let b = 4 * e;
+    edges_on(&vertices[..a], &edges[..b], &faces[..f], q, out)
+}
+
+// The natural neighbour edges of the load at (x, y) on a chart, into the first elements of a lent slice.
+pub fn natural_neighbor_edges(chart: &[u8], x: i64, y: i64, out: &mut [u64]) -> NaturalNeighbors
+    ensures { λ r. ⌜ edgesLeft (neighborsSay r) (now (out .exit)) ≡ naturalEdgesOf (now (chart .entry)) x y (now (out .entry)) ⌝ }
+{
+    let head = reading::read_head(chart);
+    match head {
+        Head::Refused(n) => NaturalNeighbors::Refused(n),
+        Head::Counts(v, e, f) => {
+            if out.len() < e {
+                return NaturalNeighbors::Refused(2);
+            }
+            edges_in(chart, v, e, f, Place { x, y }, out)
+        }
+    }
+}
+
+// What a call that wrote its slices answers.
+fn settle(refusal: u64, n: usize, opened: usize) -> NaturalNeighbors
+    ensures { λ r. ⌜ neighborsSay r ≡ settledTally refusal n opened ⌝ }
+{
+    if refusal != 0 {
+        return NaturalNeighbors::Refused(refusal);
+    }
+    NaturalNeighbors::Listed(n as u64, opened as u64)
+}
+
+// At a location that was found: the edges, and the weights from them.
+fn shares_at(
+    vertices: &[i64],
+    edges: &[usize],
+    faces: &[usize],
+    q: Place,
+    place: Location,
+    owners: &mut [u64],
+    weights: &mut [f64],
+) -> NaturalNeighbors
+    requires { ⌜ Accepted (chartOf (now vertices) (now edges) (now faces)) ⌝ ∗ ⌜ OnGrid q ⌝ ∗ ⌜ Holds (chartOf (now vertices) (now edges) (now faces)) q place ⌝ ∗ ⌜ rows (now edges) ≤ length (now owners) ⌝ ∗ ⌜ rows (now edges) ≤ length (now weights) ⌝ }
+    ensures { λ r. ⌜ sharesLeft (neighborsSay r) (now (owners .exit)) (now (weights .exit)) ≡ sharesAt (chartOf (now (vertices .entry)) (now (edges .entry)) (now (faces .entry))) q place (now (owners .entry)) (now (weights .entry)) ⌝ }
+{
+    let mut list = list_room();
+    let found = neighbors::get_natural_neighbor_edges(vertices, edges, faces, q, place, &mut list);
+    let n = found.count;
+    let refusal = natural::natural_weights(vertices, edges, faces, q, &list[..n], owners, weights);
+    settle(refusal, n, found.opened)
+}
+
+// On checked tables: 13, 14, 15, then the weights.
+fn shares_on(
+    vertices: &[i64],
+    edges: &[usize],
+    faces: &[usize],
+    q: Place,
+    owners: &mut [u64],
+    weights: &mut [f64],
+) -> NaturalNeighbors
+    requires { ⌜ Accepted (chartOf (now vertices) (now edges) (now faces)) ⌝ ∗ ⌜ rows (now edges) ≤ length (now owners) ⌝ ∗ ⌜ rows (now edges) ≤ length (now weights) ⌝ }
+    ensures { λ r. ⌜ sharesLeft (neighborsSay r) (now (owners .exit)) (now (weights .exit)) ≡ sharesOn (chartOf (now (vertices .entry)) (now (edges .entry)) (now (faces .entry))) q (now (owners .entry)) (now (weights .entry)) ⌝ }
+{
+    if geometry::off_grid(q) {
+        return NaturalNeighbors::Refused(13);
+    }
+    let place = locate::locate(vertices, edges, faces, q);
+    let refusal = place_refusal(place);
+    if refusal != 0 {
+        return NaturalNeighbors::Refused(refusal);
+    }
+    shares_at(vertices, edges, faces, q, place, owners, weights)
+}
+
+// In the body of a chart whose head has these counts.
+fn shares_in(
+    chart: &[u8],
+    v: usize,
+    e: usize,
+    f: usize,
+    q: Place,
+    owners: &mut [u64],
+    weights: &mut [f64],
+) -> NaturalNeighbors
+    requires { ⌜ Counted v e f ⌝ ∗ ⌜ e ≤ length (now owners) ⌝ ∗ ⌜ e ≤ length (now weights) ⌝ }
+    ensures { λ r. ⌜ sharesLeft (neighborsSay r) (now (owners .exit)) (now (weights .exit)) ≡ sharesIn (loadOf v e f (now (chart .entry))) q (now (owners .entry)) (now (weights .entry)) ⌝ }
+{
+    let mut vertices = vertex_room();
+    let mut edges = edge_room();
+    let mut faces = face_room();
+    let refusal = reading::load(chart, v, e, f, &mut vertices, &mut edges, &mut faces);
+    if refusal != 0 {
+        return NaturalNeighbors::Refused(refusal);
+    }
+    let a = 4 * v;
+    let b = 4 * e;
+    shares_on(&vertices[..a], &edges[..b], &faces[..f], q, owners, weights)
+}
+
+// The natural neighbour weights of the load at (x, y) on a chart: vertices and weights into the first elements of the lent slices.
+pub fn natural_neighbor_weights(
+    chart: &[u8],
+    x: i64,
+    y: i64,
+    owners: &mut [u64],
+    weights: &mut [f64],
+) -> NaturalNeighbors
+    ensures { λ r. ⌜ sharesLeft (neighborsSay r) (now (owners .exit)) (now (weights .exit)) ≡ naturalSharesOf (now (chart .entry)) x y (now (owners .entry)) (now (weights .entry)) ⌝ }
+{
+    let head = reading::read_head(chart);
+    match head {
+        Head::Refused(n) => NaturalNeighbors::Refused(n),
+        Head::Counts(v, e, f) => {
+            if owners.len() < e {
+                return NaturalNeighbors::Refused(2);
+            }
+            if weights.len() < e {
+                return NaturalNeighbors::Refused(2);
+            }
+            shares_in(chart, v, e, f, Place { x, y }, owners, weights)
+        }
     }
 }

@@ -3,7 +3,7 @@ use mathlib.Core.Path.{_≡_, sym, subst, ap, _∙_}
 use mathlib.Core.Bool.{true}
 use mathlib.Core.List.{[], _∷_}
 use Prim.Native.Nat.{ℕ}
-use lib.IntN.{ℤ, pos, _+ℤ_, _-ℤ_, _*ℤ_, +ℤ-idr}
+use lib.IntN.{ℤ, pos, _+ℤ_, _-ℤ_, _*ℤ_, +ℤ-idr, zero-*ℤ}
 use lib.Signed.{ltZ}
 use Rattle.whole.specs.Bools.{and-true}
 use Rattle.whole.specs.Test.{eqZ, eqZ-true, eq-eqZ}
@@ -169,3 +169,37 @@ module _ (a b q : Place) where
       let w : Above (norm2Of (vectorOf a b)) = subst Above whole (above-add (h .past-a) (h .before-b)) in
       let n : Above (pos 0 -ℤ ends) = above-cancel (norm2Of (vectorOf a b)) (pos 0 -ℤ ends) w (subst Above (on-product (h .on-line)) (above-mul (h .past-a) (h .before-b))) in
       simp (eq-eqZ (side a b q) (pos 0) (h .on-line), sym (below-zero ends) ∙ above-test n)
+
+-- ---- a chord of the circle
+module _ (a b c q : Place) where
+  abbrev away : ℤ
+  away = pos 0 -ℤ dotOf (vectorOf q a) (vectorOf q b)
+
+  abbrev far : ℤ
+  far = norm2Of (vectorOf q c) -ℤ dotOf (vectorOf q a) (vectorOf q c) -ℤ dotOf (vectorOf q b) (vectorOf q c) -ℤ away
+
+  -- the determinant by the ends as seen from q, and a term that goes on the line
+  chord : circle a b c q ≡ away *ℤ side a b c +ℤ side a b q *ℤ far
+  unfolding circle lifted side crossOf dotOf norm2Of agree
+  chord =
+      let e = con (pos 0) ⊖ dotE (vectorE Q A) (vectorE Q B) in
+      solve! (four a b c q) (circleE A B C Q)
+      (e ⊗ sideE A B C ⊕ sideE A B Q ⊗ (norm2E (vectorE Q C) ⊖ dotE (vectorE Q A) (vectorE Q C) ⊖ dotE (vectorE Q B) (vectorE Q C) ⊖ e)) tt
+
+  -- the open segment from a to b is strictly inside the circle of the left-turning a, b, c
+  pub chord-inside : onOpenSegment a b q ≡ true → Above (side a b c) → Above (circle a b c q)
+  unfolding onOpenSegment
+  chord-inside e l =
+      let t = and-true (eqZ (side a b q) (pos 0)) (ltZ (dotOf (vectorOf q a) (vectorOf q b)) (pos 0)) e in
+      let n : Above away = test-above (below-zero (dotOf (vectorOf q a) (vectorOf q b)) ∙ t .1) in
+      let o : side a b q *ℤ far ≡ pos 0 = ap (λ (z : ℤ). z *ℤ far) (eqZ-true (side a b q) (pos 0) (t .0)) ∙ zero-*ℤ far in
+      subst Above (sym (chord ∙ ap (λ (z : ℤ). away *ℤ side a b c +ℤ z) o ∙ +ℤ-idr (away *ℤ side a b c))) (above-mul n l)
+
+-- the open segment with its ends exchanged
+pub segment-back : (a b q : Place) → onOpenSegment a b q ≡ true → onOpenSegment b a q ≡ true
+unfolding onOpenSegment dotOf agree
+segment-back a b q e =
+    let t = and-true (eqZ (side a b q) (pos 0)) (ltZ (dotOf (vectorOf q a) (vectorOf q b)) (pos 0)) e in
+    let o : side b a q ≡ pos 0 = side-back a b q ∙ ap (λ (z : ℤ). pos 0 -ℤ z) (eqZ-true (side a b q) (pos 0) (t .0)) in
+    let d : dotOf (vectorOf q b) (vectorOf q a) ≡ dotOf (vectorOf q a) (vectorOf q b) = solve! (four a b q q) (dotE (vectorE Q B) (vectorE Q A)) (dotE (vectorE Q A) (vectorE Q B)) tt in
+    simp (eq-eqZ (side b a q) (pos 0) o, ap (λ (z : ℤ). ltZ z (pos 0)) d ∙ t .1)

@@ -4,7 +4,7 @@ use lib.Ieee.{Float, le, neg}
 use Rattle.geometry.specs.declared.Place.{Place}
 use Rattle.points.specs.declared.Point2.{Point2}
 use Rattle.points.specs.declared.PointProjection.{PointProjection}
-use Rattle.points.specs.Floats.{f0, _+f_, _-f_, _*f_, _/f_, realOf}
+use Rattle.points.specs.Floats.{f0, f1, _+f_, _-f_, _*f_, _/f_, realOf}
 
 -- a place of the chart as the Rust has it, a `Point2<f64>`
 abbrev pub pointOf : Place → Point2
@@ -38,3 +38,16 @@ relativePosition p =
     let l = neg (p .«length_2») in
     let f = neg (p .factor) in
     cond (le f0 (p .«length_2»)) (p .factor /f p .«length_2») ((l -f f) /f l)
+
+-- `circumcenter`, without the squared radius: seen from v0, multiplied by the rounded 1 / d, and moved back by v0
+unfoldable pub circumcenterOf : Point2 → Point2 → Point2 → Point2
+circumcenterOf v0 v1 v2 =
+    let b = pointSub v1 v0 in
+    let c = pointSub v2 v0 in
+    let d = (f1 +f f1) *f (b .x *f c .y -f c .x *f b .y) in
+    let lenB = pointDot b b in
+    let lenC = pointDot c c in
+    let dInv = f1 /f d in
+    let x = (lenB *f c .y -f lenC *f b .y) *f dInv in
+    let y = (neg lenB *f c .x +f lenC *f b .x) *f dInv in
+    pointAdd (record { x = x; y = y }) v0

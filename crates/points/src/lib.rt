@@ -10,7 +10,7 @@ ghost use Rattle.chart.specs.Tables.{rows, placeOf, valueOf};
 ghost use Rattle.chart.specs.Chart.{chartOf, InRange};
 ghost use Rattle.ranges.specs.Ranges.{ValueMax};
 ghost use Rattle.points.specs.Floats.{Exact, realOf};
-ghost use Rattle.points.specs.Points.{pointOf, pointAdd, pointLength2, pointSub, pointDot, projectPoint, relativePosition};
+ghost use Rattle.points.specs.Points.{pointOf, pointAdd, pointLength2, pointSub, pointDot, projectPoint, relativePosition, circumcenterOf};
 
 pub struct Point2 {
     pub x: f64,
@@ -78,6 +78,24 @@ pub fn project_point(p1: Point2, p2: Point2, query: Point2) -> PointProjection
         factor: query.sub(p1).dot(dir),
         length_2: dir.length2(),
     }
+}
+
+// The center of the circle through three points. The Rust returns its squared radius too, which nothing here uses.
+pub fn circumcenter(v0: Point2, v1: Point2, v2: Point2) -> Point2
+    ensures { λ r. ⌜ r ≡ circumcenterOf v0 v1 v2 ⌝ }
+{
+    let b = v1.sub(v0);
+    let c = v2.sub(v0);
+    let one = 1.0;
+    let two = one + one;
+    let d = two * (b.x * c.y - c.x * b.y);
+    let len_b = b.dot(b);
+    let len_c = c.dot(c);
+    let d_inv = one / d;
+    let x = (len_b * c.y - len_c * b.y) * d_inv;
+    let y = (-len_b * c.x + len_c * b.x) * d_inv;
+    let result = Point2 { x, y };
+    result.add(v0)
 }
 
 // The one cast of a whole number: `as` is the machine's own instruction, where nearest_i64_to_f64 is six times slower.

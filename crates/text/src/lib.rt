@@ -35,7 +35,7 @@ pub fn digits(field: &[u8]) -> &[u8]
 }
 
 // Whether a byte is '0' to '9'.
-fn is_figure(b: u8) -> bool
+pub fn is_figure(b: u8) -> bool
     ensures { λ r. ⌜ r ≡ isFigure b ⌝ }
 {
     if b < b'0' {
@@ -45,7 +45,7 @@ fn is_figure(b: u8) -> bool
 }
 
 // What a digit counts. A byte before '0' counts 0, so that no caller has a range to show.
-fn figure(b: u8) -> u64
+pub fn figure(b: u8) -> u64
     ensures { λ r. ⌜ r ≡ b - 48 ⌝ }
 {
     if b < b'0' {
@@ -103,7 +103,7 @@ fn below_zero(f: Field) -> Field
 }
 
 // Whether digits begin with a minus sign.
-fn has_minus(d: &[u8]) -> bool
+pub fn has_minus(d: &[u8]) -> bool
     ensures { λ r. ⌜ r ≡ eqb (getD (now (d .entry)) 0 0) 45 ⌝ }
 {
     if d.len() == 0 {

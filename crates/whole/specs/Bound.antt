@@ -1,7 +1,7 @@
 -- Bounds on whole numbers: `Within n z` is |z| ≤ n, and a bound of a sum, a difference or a product is the sum or the product of the bounds.
 -- At numerals the bound of a whole expression is a numeral, so that it fits 64 bits is `fits BOUND tt`. Assumes nothing.
 use mathlib.Core.Path.{_≡_, refl, sym, subst}
-use mathlib.Core.Bool.{Bool, true, false, cond, _||_}
+use mathlib.Core.Bool.{Bool, true, false, cond, _||_, false≢true}
 use Prim.Native.Nat.{ℕ, zero, suc, _+_, _*_, _-_, _^_, _≤_, suc-le-suc}
 use native.Mathlib.Nat.{le-refl, le-trans, le-of-eq, mul-le-mul, add-le-add, lt-of-le-of-lt}
 use native.Mathlib.Omega.{arith}
@@ -98,3 +98,8 @@ outside-within n z e = let b = or-false (ltZ z (negsuc n)) (ltZ (pos (suc n)) z)
     within-test : (n : ℕ) (z : ℤ) → ltZ z (negsuc n) ≡ false → ltZ (pos (suc n)) z ≡ false → Within (suc n) z
     within-test n (pos a) e f = record { abs = ltb-false (suc n) a f }
     within-test n (negsuc a) e f = record { abs = suc-le-suc (ltb-false n a e) }
+
+-- what is not outside 0 to n is within n
+pub up-to : (n : ℕ) (z : ℤ) → outside (pos 0) (pos n) z ≡ false → Within n z
+up-to n (pos a) e = record { abs = ltb-false n a (or-false (ltb a 0) (ltb n a) e .1) }
+up-to n (negsuc a) e = absurd (false≢true (sym e))

@@ -5,3 +5,4 @@ pub mod First
 pub mod Ring
 pub mod Poly
 pub mod Sign
+pub mod Orbit

@@ -7,19 +7,19 @@ use Rattle.answers.proofs.folder.cases.Statement.{statement}
 use Rattle.answers.proofs.folder.cases.Tie as tie
 
 abbrev Inv-loop : tie.InvT-loop
-Inv-loop space₀ count i₀ space i = length space ≡ length space₀
+Inv-loop charts₀ queries₀ count i₀ charts queries i = (length charts ≡ length charts₀) × (length queries ≡ length queries₀)
 
 abbrev μ-loop : tie.MeasureT-loop
-μ-loop space₀ count i₀ space i = count - i
+μ-loop charts₀ queries₀ count i₀ charts queries i = count - i
 
 arg-count-requires : tie.Need-arg-count-requires Inv-loop μ-loop
 arg-count-requires c κs = tt
 
 loop-holds : tie.Need-loop-holds Inv-loop μ-loop
-loop-holds c = refl
+loop-holds c = (refl, refl)
 
-case-requires : tie.Need-case-requires Inv-loop μ-loop
-case-requires c κs = tt
+folder-requires : tie.Need-folder-requires Inv-loop μ-loop
+folder-requires c κs = tt
 
 add-i : tie.Need-add-i Inv-loop μ-loop
 add-i c = search needs
@@ -33,6 +33,9 @@ loop-again c = search needs
 same-length : tie.Need-same-length Inv-loop μ-loop
 same-length c = search needs
 
+same-length-2 : tie.Need-same-length-2 Inv-loop μ-loop
+same-length-2 c = search needs
+
 returns : tie.Need-returns Inv-loop μ-loop
 returns c = tt
 
@@ -44,9 +47,10 @@ cases-spec =
     μ-loop
     arg-count-requires
     loop-holds
-    case-requires
+    folder-requires
     add-i
     loop-less
     loop-again
     same-length
+    same-length-2
     returns)

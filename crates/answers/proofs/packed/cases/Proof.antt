@@ -6,13 +6,13 @@ use Rattle.answers.proofs.packed.cases.Statement.{statement}
 use Rattle.answers.proofs.packed.cases.Tie as tie
 
 abbrev Inv-loop : tie.InvT-loop
-Inv-loop space₀ turns₀ space turns = length space ≡ length space₀
+Inv-loop charts₀ queries₀ turns₀ charts queries turns = (length charts ≡ length charts₀) × (length queries ≡ length queries₀)
 
 abbrev μ-loop : tie.MeasureT-loop
-μ-loop space₀ turns₀ space turns = turns
+μ-loop charts₀ queries₀ turns₀ charts queries turns = turns
 
 loop-holds : tie.Need-loop-holds Inv-loop μ-loop
-loop-holds c = refl
+loop-holds c = (refl, refl)
 
 next-case-requires : tie.Need-next-case-requires Inv-loop μ-loop
 next-case-requires c κs = tt
@@ -29,11 +29,17 @@ loop-again c = search needs
 same-length : tie.Need-same-length Inv-loop μ-loop
 same-length c = search needs
 
+same-length-2 : tie.Need-same-length-2 Inv-loop μ-loop
+same-length-2 c = search needs
+
 returns : tie.Need-returns Inv-loop μ-loop
 returns c = tt
 
-same-length-2 : tie.Need-same-length-2 Inv-loop μ-loop
-same-length-2 c = search needs
+same-length-3 : tie.Need-same-length-3 Inv-loop μ-loop
+same-length-3 c = search needs
+
+same-length-4 : tie.Need-same-length-4 Inv-loop μ-loop
+same-length-4 c = search needs
 
 returns-2 : tie.Need-returns-2 Inv-loop μ-loop
 returns-2 c = tt
@@ -50,6 +56,8 @@ cases-spec =
     loop-less
     loop-again
     same-length
-    returns
     same-length-2
+    returns
+    same-length-3
+    same-length-4
     returns-2)

@@ -1,0 +1,42 @@
+-- A whole number in decimal, as a queries text has it: an optional minus sign and 1 to 19 digits, of a number that an i64 holds.
+use Prim.Native.Nat.{ℕ, _^_, _-_}
+use mathlib.Core.List.{List}
+use mathlib.Core.Bool.{Bool, true, false}
+use lib.ListN.{length, drop, getD}
+use lib.Dec.{eqb, ltb, leb}
+use lib.IntN.{pos, negℤ}
+use Rattle.text.specs.Field.{pickℕ, pickField, valueOf}
+use Rattle.text.specs.Natural.{figures}
+use Rattle.text.specs.declared.Field.{Field}
+use Rattle.text.specs.declared.Field.the-variants.{Number, Malformed}
+
+-- As many digits as any i64 has.
+abbrev pub mostDigits : ℕ
+mostDigits = 19
+
+-- Stands for bytes that make no number: it is above every magnitude.
+abbrev pub noMagnitude : ℕ
+noMagnitude = 2 ^ 64 - 1
+
+-- The number that bytes make where all are digits.
+abbrev pub digitsMake : List ℕ → ℕ
+digitsMake d = pickℕ (figures d) (valueOf 0 d) noMagnitude
+
+-- The number that 1 to 19 digits make.
+unfoldable pub magnitudeOf : List ℕ → ℕ
+magnitudeOf d = pickℕ (eqb (length d) 0) noMagnitude (pickℕ (leb (length d) mostDigits) (digitsMake d) noMagnitude)
+
+-- A magnitude with no sign before it, where an i64 holds the number.
+abbrev pub aboveOf : ℕ → Field
+aboveOf n = pickField (ltb n (2 ^ 63)) (Number (pos n)) Malformed
+
+-- A magnitude after a minus sign.
+abbrev pub belowOf : ℕ → Field
+belowOf n = pickField (leb n (2 ^ 63)) (Number (negℤ (pos n))) Malformed
+
+abbrev pub signedOf : Bool → List ℕ → Field
+signedOf true s = belowOf (magnitudeOf (drop 1 s))
+signedOf false s = aboveOf (magnitudeOf s)
+
+unfoldable pub decimalOf : List ℕ → Field
+decimalOf s = signedOf (eqb (getD s 0 0) 45) s

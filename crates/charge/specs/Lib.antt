@@ -1,0 +1,4 @@
+pub mod Charging
+pub mod Order
+pub mod Nearest
+pub mod Rows

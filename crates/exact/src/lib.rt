@@ -1,0 +1,1 @@
+// Whole numbers in f64: laws alone, everything is in specs/.

@@ -1,0 +1,6 @@
+pub mod Turn
+pub mod Gradient
+pub mod Sums
+pub mod Round
+pub mod Line
+pub mod Upward

@@ -1,0 +1,4 @@
+pub mod Natural
+pub mod Laws
+pub mod Arrays
+pub mod Facts

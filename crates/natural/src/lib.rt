@@ -1,0 +1,290 @@
+// Natural neighbour weights from the list of natural neighbour edges (01, "Weights"; `get_natural_neighbor_weights`).
+use geometry::Place;
+use points::Point2;
+ghost use mathlib.Core.Path.{_≡_};
+ghost use mathlib.Core.Bool.{true};
+ghost use mathlib.Core.List.{_++_, map};
+ghost use Prim.Native.Nat.{ℕ, _≤_, _<_};
+ghost use lib.ListN.{length, take, drop, getD};
+ghost use Rattle.geometry.specs.Plane.{OnGrid};
+ghost use Rattle.chart.specs.Tables.{rows, originOf};
+ghost use Rattle.chart.specs.Chart.{chartOf, fromOf, InRange};
+ghost use Rattle.points.specs.Floats.{_/f_};
+ghost use Rattle.points.specs.Points.{pointOf};
+ghost use Rattle.natural.specs.Natural.{cellCorner, faceCenter, firstSide, addSide, areaOf, turnOf, cellShares, twoShares, sharesOf, told, outcome, naturalWeightsOf, Listed};
+ghost use Rattle.natural.specs.Arrays.{cornerX, cornerY, Holds};
+
+// A polygon's positive and negative area, summed apart.
+pub struct Sides {
+    pub positive: f64,
+    pub negative: f64,
+}
+
+// The area of one neighbour's polygon; or the turn about the neighbour is broken.
+pub enum Area {
+    Whole(f64),
+    Broken,
+}
+
+impl Sides {
+    fn first(a: Point2, b: Point2) -> Sides
+        ensures { λ r. ⌜ r ≡ firstSide a b ⌝ }
+    {
+        Sides {
+            positive: a.x * b.y,
+            negative: a.y * b.x,
+        }
+    }
+
+    fn add(self, a: Point2, b: Point2) -> Sides
+        ensures { λ r. ⌜ r ≡ addSide self a b ⌝ }
+    {
+        Sides {
+            positive: self.positive + a.x * b.y,
+            negative: self.negative + a.y * b.x,
+        }
+    }
+
+    fn area(self) -> f64
+        ensures { λ r. ⌜ r ≡ areaOf self ⌝ }
+    {
+        self.positive - self.negative
+    }
+}
+
+// The point where half-edge h starts.
+fn start_of(vertices: &[i64], edges: &[usize], faces: &[usize], h: usize) -> Point2
+    requires { ⌜ InRange (chartOf (now vertices) (now edges) (now faces)) ⌝ ∗ ⌜ h < rows (now edges) ⌝ }
+    ensures { λ r. ⌜ r ≡ pointOf (fromOf (chartOf (now (vertices .entry)) (now (edges .entry)) (now (faces .entry))) h) ⌝ }
+{
+    points::position(vertices, edges, faces, chart::origin_of(edges, h))
+}
+
+// The insertion cell's corner for the listed edge h, seen from q.
+fn cell_corner(vertices: &[i64], edges: &[usize], faces: &[usize], q: Point2, h: usize) -> Point2
+    requires { ⌜ InRange (chartOf (now vertices) (now edges) (now faces)) ⌝ ∗ ⌜ h < rows (now edges) ⌝ }
+    ensures { λ r. ⌜ r ≡ cellCorner (chartOf (now (vertices .entry)) (now (edges .entry)) (now (faces .entry))) q h ⌝ }
+{
+    let from = start_of(vertices, edges, faces, h);
+    let to = start_of(vertices, edges, faces, chart::partner_of(h));
+    points::circumcenter(to.sub(q), from.sub(q), Point2 { x: 0.0, y: 0.0 })
+}
+
+// The circumcenter of face f, seen from q.
+fn face_center(vertices: &[i64], edges: &[usize], faces: &[usize], q: Point2, f: usize) -> Point2
+    requires { ⌜ InRange (chartOf (now vertices) (now edges) (now faces)) ⌝ ∗ ⌜ f < length (now faces) ⌝ }
+    ensures { λ r. ⌜ r ≡ faceCenter (chartOf (now (vertices .entry)) (now (edges .entry)) (now (faces .entry))) q f ⌝ }
+{
+    let h = chart::adjacent_of(faces, f);
+    let v0 = start_of(vertices, edges, faces, chart::prev_of(edges, h));
+    let v1 = start_of(vertices, edges, faces, h);
+    let v2 = start_of(vertices, edges, faces, chart::next_of(edges, h));
+    points::circumcenter(v0.sub(q), v1.sub(q), v2.sub(q))
+}
+
+// The turn about the neighbour where the listed edge `stop` starts, from the half-edge `start`; `before` and `first` are the cell's corners
+// for `start`'s and `stop`'s listed edges.
+fn turn_about(
+    vertices: &[i64],
+    edges: &[usize],
+    faces: &[usize],
+    q: Point2,
+    stop: usize,
+    first: Point2,
+    start: usize,
+    before: Point2,
+) -> Area
+    requires { ⌜ InRange (chartOf (now vertices) (now edges) (now faces)) ⌝ ∗ ⌜ stop < rows (now edges) ⌝ ∗ ⌜ start < rows (now edges) ⌝ }
+    ensures { λ r. ⌜ r ≡ turnOf (chartOf (now (vertices .entry)) (now (edges .entry)) (now (faces .entry))) q stop first start before ⌝ }
+{
+    let end = chart::partner_of(stop);
+    let most = edges.len() / 4;
+    let mut edge = start;
+    let mut last = before;
+    let mut sides = Sides::first(first, last);
+    let mut steps = 0;
+    while steps < most {
+        let face = chart::face_of(edges, edge);
+        if face == 0 {
+            return Area::Broken;
+        }
+        let current = face_center(vertices, edges, faces, q, face);
+        sides = sides.add(last, current);
+        edge = chart::partner_of(chart::next_of(edges, edge));
+        last = current;
+        if edge == end {
+            let all = sides.add(current, first);
+            return Area::Whole(all.area());
+        }
+        steps += 1;
+    }
+    Area::Broken
+}
+
+// The insertion cell into the first elements of xs and ys.
+fn insertion_cell(
+    vertices: &[i64],
+    edges: &[usize],
+    faces: &[usize],
+    q: Point2,
+    list: &[usize],
+    xs: &mut [f64],
+    ys: &mut [f64],
+)
+    requires { ⌜ InRange (chartOf (now vertices) (now edges) (now faces)) ⌝ ∗ ⌜ Listed (chartOf (now vertices) (now edges) (now faces)) (now list) ⌝ }
+    requires { ⌜ (length (now list) ≤ length (now xs)) × (length (now list) ≤ length (now ys)) ⌝ }
+    ensures { λ _. ⌜ Holds (cornerX (chartOf (now (vertices .entry)) (now (edges .entry)) (now (faces .entry))) q (now (list .entry))) 0 (length (now (list .entry))) (now (xs .exit)) × Holds (cornerY (chartOf (now (vertices .entry)) (now (edges .entry)) (now (faces .entry))) q (now (list .entry))) 0 (length (now (list .entry))) (now (ys .exit)) ⌝ }
+{
+    let mut i = 0;
+    while i < list.len() {
+        let corner = cell_corner(vertices, edges, faces, q, list[i]);
+        xs[i] = corner.x;
+        ys[i] = corner.y;
+        i += 1;
+    }
+}
+
+// Each of the first n areas divided by their sum.
+fn divide_all(areas: &mut [f64], n: usize, total: f64)
+    requires { ⌜ (n ≤ 756) × (n ≤ length (now areas)) ⌝ }
+    ensures { λ _. ⌜ take n (now (areas .exit)) ≡ map (λ area. area /f total) (take n (now (areas .entry))) ⌝ }
+{
+    let mut i = 0;
+    while i < n {
+        areas[i] = areas[i] / total;
+        i += 1;
+    }
+}
+
+// A turn about each neighbour, from the cell's corners in xs and ys. Corner i is last read at turn i, so area i takes the place of its x.
+// False where a turn is broken.
+fn turn_all(
+    vertices: &[i64],
+    edges: &[usize],
+    faces: &[usize],
+    q: Point2,
+    list: &[usize],
+    xs: &mut [f64],
+    ys: &[f64],
+) -> bool
+    requires { ⌜ InRange (chartOf (now vertices) (now edges) (now faces)) ⌝ ∗ ⌜ Listed (chartOf (now vertices) (now edges) (now faces)) (now list) ⌝ ∗ ⌜ Holds (cornerX (chartOf (now vertices) (now edges) (now faces)) q (now list)) 0 (length (now list)) (now xs) ⌝ ∗ ⌜ Holds (cornerY (chartOf (now vertices) (now edges) (now faces)) q (now list)) 0 (length (now list)) (now ys) ⌝ }
+    requires { ⌜ (0 < length (now list)) × (length (now list) ≤ length (now xs)) × (length (now list) ≤ length (now ys)) ⌝ }
+    ensures { λ r. ⌜ told r (take (length (now (list .entry))) (now (xs .exit))) ≡ cellShares (chartOf (now (vertices .entry)) (now (edges .entry)) (now (faces .entry))) q (now (list .entry)) ⌝ }
+{
+    let n = list.len();
+    let k = n - 1;
+    let mut edge = list[k];
+    let mut last = Point2 { x: xs[k], y: ys[k] };
+    let mut total = 0.0;
+    let mut i = 0;
+    while i < n {
+        let stop = list[i];
+        let first = Point2 { x: xs[i], y: ys[i] };
+        let Area::Whole(area) = turn_about(vertices, edges, faces, q, stop, first, edge, last)
+        else {
+            return false;
+        };
+        xs[i] = area;
+        total = total + area;
+        last = first;
+        edge = stop;
+        i += 1;
+    }
+    divide_all(xs, n, total);
+    true
+}
+
+// The weights of two listed edges' starts into the first elements of xs.
+fn two_shares(
+    vertices: &[i64],
+    edges: &[usize],
+    faces: &[usize],
+    q: Point2,
+    list: &[usize],
+    xs: &mut [f64],
+)
+    requires { ⌜ InRange (chartOf (now vertices) (now edges) (now faces)) ⌝ ∗ ⌜ Listed (chartOf (now vertices) (now edges) (now faces)) (now list) ⌝ }
+    requires { ⌜ (length (now list) ≡ 2) × (2 ≤ length (now xs)) ⌝ }
+    ensures { λ _. ⌜ told true (take 2 (now (xs .exit))) ≡ twoShares (chartOf (now (vertices .entry)) (now (edges .entry)) (now (faces .entry))) q (now (list .entry)) ⌝ }
+{
+    let v0 = start_of(vertices, edges, faces, list[0]);
+    let v1 = start_of(vertices, edges, faces, list[1]);
+    let w = weights::two_point_interpolation(v0, v1, q);
+    xs[0] = w.w0;
+    xs[1] = w.w1;
+}
+
+// The weights of the listed edges' starts into the first elements of xs; what else xs and ys hold then is left open. False where a turn is
+// broken. For calls that need no copy of their own.
+pub fn natural_shares(
+    vertices: &[i64],
+    edges: &[usize],
+    faces: &[usize],
+    q: Place,
+    list: &[usize],
+    xs: &mut [f64],
+    ys: &mut [f64],
+) -> bool
+    requires { ⌜ InRange (chartOf (now vertices) (now edges) (now faces)) ⌝ ∗ ⌜ OnGrid q ⌝ ∗ ⌜ Listed (chartOf (now vertices) (now edges) (now faces)) (now list) ⌝ }
+    requires { ⌜ (length (now list) ≤ length (now xs)) × (length (now list) ≤ length (now ys)) ⌝ }
+    ensures { λ r. ⌜ told r (take (length (now (list .entry))) (now (xs .exit))) ≡ sharesOf (chartOf (now (vertices .entry)) (now (edges .entry)) (now (faces .entry))) q (now (list .entry)) ⌝ }
+{
+    let n = list.len();
+    if n == 0 {
+        return true;
+    }
+    if n == 1 {
+        xs[0] = 1.0;
+        return true;
+    }
+    let p = points::point_of(q);
+    if n == 2 {
+        two_shares(vertices, edges, faces, p, list, xs);
+        return true;
+    }
+    insertion_cell(vertices, edges, faces, p, list, xs, ys);
+    turn_all(vertices, edges, faces, p, list, xs, ys)
+}
+
+// Room for a float for each half-edge of the largest chart.
+fn room() -> [f64; 756]
+    ensures { λ r. ⌜ length r ≡ 756 ⌝ }
+{
+    [0.0; 756]
+}
+
+// The listed edges' starts and the first elements of xs into the caller's slices.
+fn copy_out(edges: &[usize], list: &[usize], xs: &[f64], owners: &mut [u64], weights: &mut [f64])
+    requires { ⌜ ((k : ℕ) → k < length (now list) → getD (now list) k 0 < rows (now edges)) ⌝ ∗ ⌜ length (now list) ≤ 756 ⌝ ∗ ⌜ length (now list) ≤ length (now xs) ⌝ ∗ ⌜ length (now list) ≤ length (now owners) ⌝ ∗ ⌜ length (now list) ≤ length (now weights) ⌝ }
+    ensures { λ _. ⌜ (now (owners .exit) ≡ map (originOf (now (edges .entry))) (now (list .entry)) ++ drop (length (now (list .entry))) (now (owners .entry))) × (now (weights .exit) ≡ take (length (now (list .entry))) (now (xs .entry)) ++ drop (length (now (list .entry))) (now (weights .entry))) ⌝ }
+{
+    let mut i = 0;
+    while i < list.len() {
+        owners[i] = chart::origin_of(edges, list[i]) as u64;
+        weights[i] = xs[i];
+        i += 1;
+    }
+}
+
+// The listed edges' starts with their weights; 15 where a turn is broken. Nothing is written before the last turn is known to be whole.
+pub fn natural_weights(
+    vertices: &[i64],
+    edges: &[usize],
+    faces: &[usize],
+    q: Place,
+    list: &[usize],
+    owners: &mut [u64],
+    weights: &mut [f64],
+) -> u64
+    requires { ⌜ InRange (chartOf (now vertices) (now edges) (now faces)) ⌝ ∗ ⌜ OnGrid q ⌝ ∗ ⌜ Listed (chartOf (now vertices) (now edges) (now faces)) (now list) ⌝ }
+    requires { ⌜ (length (now list) ≤ length (now owners)) × (length (now list) ≤ length (now weights)) ⌝ }
+    ensures { λ r. ⌜ outcome r (now (owners .exit)) (now (weights .exit)) ≡ naturalWeightsOf (chartOf (now (vertices .entry)) (now (edges .entry)) (now (faces .entry))) q (now (list .entry)) (now (owners .entry)) (now (weights .entry)) ⌝ }
+{
+    let mut xs = room();
+    let mut ys = room();
+    if !natural_shares(vertices, edges, faces, q, list, &mut xs, &mut ys) {
+        return 15;
+    }
+    copy_out(edges, list, &xs, owners, weights);
+    0
+}

@@ -1,0 +1,3 @@
+pub mod Steps
+pub mod Reverse
+pub mod Ends
