@@ -2,3 +2,4 @@ pub mod Location
 pub mod Weights
 pub mod Gradient
 pub mod Natural
+pub mod Value
