@@ -22,6 +22,7 @@ use Rattle.locate.specs.declared.Location.the-variants.{OnVertex, OnEdge, OnFac
 use Rattle.locate.specs.Location.{locationOf}
 use Rattle.neighbors.specs.Neighbors.{neighborsOf}
 use Rattle.natural.specs.Natural.{Outcome, naturalWeightsOf}
+use Rattle.values.specs.Located.{placeRefusal}
 use Rattle.estivolh.specs.declared.NaturalNeighbors.{NaturalNeighbors}
 use Rattle.estivolh.specs.declared.NaturalNeighbors.the-variants.{Listed, Refused}
 
@@ -39,14 +40,6 @@ neighborsSay (Refused n) = turnedDown n
 abbrev pub settledTally : ℕ → ℕ → ℕ → Tally
 settledTally zero n o = listed n o
 settledTally (suc r) n o = turnedDown (suc r)
-
--- 14: outside the hull; 15: no place found
-abbrev pub placeRefusal : Location → ℕ
-placeRefusal (OnVertex v) = 0
-placeRefusal (OnEdge h) = 0
-placeRefusal (OnFace f) = 0
-placeRefusal (OutsideOfConvexHull h) = 14
-placeRefusal NoPlace = 15
 
 -- ---- the edges call: its answer, and the lent slice as it returns
 pub record Edges : Type 0 where

@@ -1,36 +1,16 @@
--- The public call `interpolate`: 01, "Gradient and value", behind the refusals of the chart, the query, the location and the turns.
-use mathlib.Core.Path.{_≡_, refl, ap, _∙_}
-use mathlib.Core.Bool.{cond}
-use mathlib.Core.List.{List, [], _∷_, _++_, map}
-use Prim.Native.Nat.{ℕ, zero, suc, _<_}
-use native.Mathlib.Nat.{not-suc-le-zero, le-of-suc-le-suc}
-use native.Mathlib.Omega.{arith}
-use lib.Dec.{eqb}
-use lib.IntN.{ℤ, pos}
+-- The public call `interpolate`: 01, "Gradient and value", behind the refusals of the chart.
+use mathlib.Core.List.{List}
+use Prim.Native.Nat.{ℕ}
+use lib.IntN.{ℤ}
 use lib.Ieee.{Float}
-use lib.ListN.{length, take, drop, getD, length-map}
-use Rattle.whole.specs.Test.{eqZ}
 use Rattle.geometry.specs.declared.Place.{Place}
-use Rattle.geometry.specs.Plane.{offGrid}
-use Rattle.chart.specs.Chart.{Chart, chartOf, InRange, partner, partner-in}
+use Rattle.chart.specs.Chart.{chartOf}
 use Rattle.checks.specs.Checks.{Loaded}
 use Rattle.checks.specs.Checks.Loaded.{loaded, refused}
 use Rattle.reading.specs.Reading.{chartIn}
-use Rattle.locate.specs.declared.Location.{Location}
-use Rattle.locate.specs.declared.Location.the-variants.{OnVertex, OnEdge, OnFace, OutsideOfConvexHull, NoPlace}
-use Rattle.locate.specs.Location.{locationOf}
-use Rattle.locate.specs.Laws.{Holds}
-use Rattle.neighbors.specs.Neighbors.{neighborsOf}
-use Rattle.weights.specs.declared.BarycentricWeights.{BarycentricWeights}
-use Rattle.weights.specs.declared.BarycentricWeights.the-variants as W
-use Rattle.weights.specs.Barycentric.{weighTwo, weighThree}
-use Rattle.natural.specs.Natural.{Shares, shares, broken, sharesOf, settled, Outcome, outcome, naturalWeightsOf}
-use Rattle.natural.specs.Facts.{verticesIn, share-count}
-use Rattle.interpolate.specs.Values.{Owners, valueSum, valueBlend}
-use Rattle.estivolh.specs.Weights.{barycentricAt}
-use Rattle.estivolh.specs.Natural.{placeRefusal}
-use Rattle.estivolh.specs.declared.InterpolatedValue.{InterpolatedValue}
-use Rattle.estivolh.specs.declared.InterpolatedValue.the-variants.{Value, Refused}
+use Rattle.values.specs.declared.InterpolatedValue.{InterpolatedValue}
+use Rattle.values.specs.declared.InterpolatedValue.the-variants.{Value, Refused}
+use Rattle.values.specs.Value.{methodOf, valueOn}
 
 -- the value, or the number of the refusal
 pub data Answer : Type 0 where
@@ -42,42 +22,6 @@ abbrev pub valueSays : InterpolatedValue → Answer
 valueSays (Value v) = value v
 valueSays (Refused n) = turnedDown n
 
--- methods: 1 barycentric, 2 natural, 3 with gradients; 0 stands for any other
-abbrev pub methodOf : ℤ → ℕ
-methodOf z = cond (eqZ z (pos 1)) 1 (cond (eqZ z (pos 2)) 2 (cond (eqZ z (pos 3)) 3 0))
-
--- method 1: the values by the barycentric weights
-abbrev pub barycentricValue : Chart → BarycentricWeights → InterpolatedValue
-barycentricValue c (W.OneVertex u a) = Value (valueSum c (u ∷ []) (a ∷ []))
-barycentricValue c (W.TwoWeights u a v b) = Value (valueSum c (u ∷ v ∷ []) (a ∷ b ∷ []))
-barycentricValue c (W.ThreeWeights u a v b t d) = Value (valueSum c (u ∷ v ∷ t ∷ []) (a ∷ b ∷ d ∷ []))
-barycentricValue c (W.Refused n) = Refused n
-
--- methods 2 and 3: the natural weights, the gradients too
-abbrev pub byMethod : ℕ → Chart → Place → List ℕ → List Float → Float
-byMethod m c q os ws = cond (eqb m 2) (valueSum c os ws) (valueBlend c q os ws)
-
--- a broken turn is 15
-abbrev pub fromShares : ℕ → Chart → Place → List ℕ → Shares → InterpolatedValue
-fromShares m c q os broken = Refused 15
-fromShares m c q os (shares ws) = Value (byMethod m c q os ws)
-
-abbrev pub naturalValue : ℕ → Chart → Place → List ℕ → InterpolatedValue
-naturalValue m c q list = fromShares m c q (map (c .origin) list) (sharesOf c q list)
-
-abbrev pub valueAt : ℕ → Chart → Place → Location → InterpolatedValue
-valueAt m c q l = cond (eqb m 1) (barycentricValue c (barycentricAt c q l)) (naturalValue m c q (neighborsOf c q l .edges))
-
--- 14: outside the hull; 15: no place found
-abbrev pub valueFrom : ℕ → ℕ → Chart → Place → Location → InterpolatedValue
-valueFrom zero m c q l = valueAt m c q l
-valueFrom (suc n) m c q l = Refused (suc n)
-
--- 12: method unknown; 13: x or y not -10,000 to 10,000
-unfoldable pub valueOn : ℕ → Chart → Place → InterpolatedValue
-valueOn m c q =
-    cond (eqb m 0) (Refused 12) (cond (offGrid q) (Refused 13) (valueFrom (placeRefusal (locationOf c q)) m c q (locationOf c q)))
-
 -- 3 to 11 come first
 abbrev pub valueIn : Loaded → ℕ → Place → InterpolatedValue
 valueIn (loaded vs es fs) m q = valueOn m (chartOf vs es fs) q
@@ -85,77 +29,3 @@ valueIn (refused n) m q = Refused n
 
 abbrev pub interpolateOf : List ℕ → ℤ → ℤ → ℤ → Answer
 interpolateOf s method x y = valueSays (valueIn (chartIn s) (methodOf method) (record { x = x; y = y }))
-
--- ---- laws: a location that was found, and one that was not
-pub value-found : (n m : ℕ) (c : Chart) (q : Place) (l : Location) → n ≡ 0 → valueFrom n m c q l ≡ valueAt m c q l
-value-found zero m c q l e = refl
-value-found (suc n) m c q l e = let o : ⊥ = omega arith in absurd o
-
-pub value-turned : (n m : ℕ) (c : Chart) (q : Place) (l : Location) → (n ≡ 0 → ⊥) → valueFrom n m c q l ≡ Refused n
-value-turned zero m c q l e = absurd (e refl)
-value-turned (suc n) m c q l e = refl
-
--- ---- laws: the vertices are vertices of the chart
-in-none : (c : Chart) → Owners c []
-in-none c k l = absurd (not-suc-le-zero l)
-
-in-more : (c : Chart) (u : ℕ) (os : List ℕ) → u < c .vertices → Owners c os → Owners c (u ∷ os)
-in-more c u os a b zero l = a
-in-more c u os a b (suc k) l = b k (le-of-suc-le-suc l)
-
-in-one : (c : Chart) (u : ℕ) → u < c .vertices → Owners c (u ∷ [])
-in-one c u a = in-more c u [] a (in-none c)
-
-pub barycentric-owners : (c : Chart) (q : Place) (l : Location) → InRange c → Holds c q l → Owners c (verticesIn (barycentricAt c q l))
-unfolding weighTwo weighThree
-barycentric-owners c q (OnVertex v) r h = in-one c v (h .0)
-barycentric-owners c q (OnEdge e) r h = in-more c _ (c .origin (partner e) ∷ []) (r .origins e (h .0)) (in-one c _ (r .origins _ (partner-in r e (h .0))))
-barycentric-owners c q (OnFace f) r h =
-    let a = r .adjacents f (h .0) in
-    in-more c _ (c .origin (c .adjacent f) ∷ c .origin (c .next (c .adjacent f)) ∷ []) (r .origins _ (r .prevs _ a)) (in-more c _ (c .origin (c .next (c .adjacent f)) ∷ []) (r .origins _ a) (in-one c _ (r .origins _ (r .nexts _ a))))
-barycentric-owners c q (OutsideOfConvexHull e) r h = in-none c
-barycentric-owners c q NoPlace r h = in-none c
-
-pub listed-owners : (c : Chart) → InRange c → (list : List ℕ) → ((k : ℕ) → k < length list → getD list k 0 < c .halfEdges) → Owners c (map (c .origin) list)
-listed-owners c r [] b = in-none c
-listed-owners c r (h ∷ list) b =
-    in-more c _ (map (c .origin) list) (r .origins h (b 0 (omega arith))) (listed-owners c r list (λ k l. b (suc k) (omega arith)))
-
--- ---- laws: what `natural_weights` left in its slices
-take-front : {A : Type 0} (new old : List A) (n : ℕ) → length new ≡ n → take n (new ++ old) ≡ new
-take-front [] old n e = let z : n ≡ 0 = omega arith in rw z
-take-front (x ∷ new) old zero e = let o : ⊥ = omega arith in absurd o
-take-front (x ∷ new) old (suc n) e = ap (λ (l : List _). x ∷ l) (take-front new old n (omega arith))
-
-module _ (m : ℕ) (c : Chart) (q : Place) (list list' : List ℕ) (same : list' ≡ list) (r n : ℕ) (os os' : List ℕ) (ws ws' : List Float) (e : outcome r os' ws' ≡ naturalWeightsOf c q list' os ws) where
-  told-list : outcome r os' ws' ≡ settled (map (c .origin) list) (sharesOf c q list) os ws
-  told-list = e ∙ ap (λ (l : List ℕ). naturalWeightsOf c q l os ws) same
-
-  pub left-refused : (r ≡ 0 → ⊥) → naturalValue m c q list ≡ Refused r
-  unfolding settled
-  left-refused z = pick (sharesOf c q list) told-list
-    where
-      pick : (t : Shares) → outcome r os' ws' ≡ settled (map (c .origin) list) t os ws → fromShares m c q (map (c .origin) list) t ≡ Refused r
-      pick broken d = let k : r ≡ 15 = ap (λ (o : Outcome). o .refusal) d in rw k
-      pick (shares us) d = absurd (z (ap (λ (o : Outcome). o .refusal) d))
-
-  pub left-owners : r ≡ 0 → length list ≡ n → take n os' ≡ map (c .origin) list
-  unfolding settled
-  left-owners z l = pick (sharesOf c q list) told-list
-    where
-      pick : (t : Shares) → outcome r os' ws' ≡ settled (map (c .origin) list) t os ws → take n os' ≡ map (c .origin) list
-      pick broken d = let k : r ≡ 15 = ap (λ (o : Outcome). o .refusal) d in let f : ⊥ = omega arith in absurd f
-      pick (shares us) d =
-          let k : os' ≡ map (c .origin) list ++ drop (length (map (c .origin) list)) os = ap (λ (o : Outcome). o .owners) d in
-          rw k (take-front (map (c .origin) list) _ n (length-map list (c .origin) ∙ l))
-
-  pub left-value : r ≡ 0 → length list ≡ n → naturalValue m c q list ≡ Value (byMethod m c q (take n os') (take n ws'))
-  unfolding settled
-  left-value z l = rw (left-owners z l) (pick (sharesOf c q list) told-list (share-count c q list))
-    where
-      pick : (t : Shares) → outcome r os' ws' ≡ settled (map (c .origin) list) t os ws → ((us : List Float) → t ≡ shares us → length us ≡ length list)
-          → fromShares m c q (map (c .origin) list) t ≡ Value (byMethod m c q (map (c .origin) list) (take n ws'))
-      pick broken d g = let k : r ≡ 15 = ap (λ (o : Outcome). o .refusal) d in let f : ⊥ = omega arith in absurd f
-      pick (shares us) d g =
-          let k : ws' ≡ us ++ drop (length us) ws = ap (λ (o : Outcome). o .weights) d in
-          rw (k, take-front us (drop (length us) ws) n (g us refl ∙ l))

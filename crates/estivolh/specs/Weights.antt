@@ -15,7 +15,7 @@ use Rattle.locate.specs.declared.Location.the-variants.{OnVertex, OnEdge, OnFac
 use Rattle.locate.specs.Location.{locationOf}
 use Rattle.weights.specs.declared.BarycentricWeights.{BarycentricWeights}
 use Rattle.weights.specs.declared.BarycentricWeights.the-variants.{OneVertex, TwoWeights, ThreeWeights, Refused}
-use Rattle.weights.specs.Barycentric.{vertexWeights, edgeWeights, faceWeights}
+use Rattle.values.specs.Located.{barycentricAt}
 
 -- a vertex and its weight
 pub record Weighted : Type 0 where
@@ -36,14 +36,6 @@ weightsSay (OneVertex v w) = shares (weigh v w ∷ [])
 weightsSay (TwoWeights u w v x) = shares (weigh u w ∷ weigh v x ∷ [])
 weightsSay (ThreeWeights u w v x t y) = shares (weigh u w ∷ weigh v x ∷ weigh t y ∷ [])
 weightsSay (Refused n) = turnedDown n
-
--- by the location; 14: outside the hull; 15: no place found
-abbrev pub barycentricAt : Chart → Place → Location → BarycentricWeights
-barycentricAt c q (OnVertex v) = vertexWeights v
-barycentricAt c q (OnEdge h) = edgeWeights c q h
-barycentricAt c q (OnFace f) = faceWeights c q f
-barycentricAt c q (OutsideOfConvexHull h) = Refused 14
-barycentricAt c q NoPlace = Refused 15
 
 -- 13: x or y not -10,000 to 10,000
 unfoldable pub barycentricOn : Chart → Place → BarycentricWeights

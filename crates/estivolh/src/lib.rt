@@ -2,6 +2,7 @@
 use geometry::Place;
 use locate::Location;
 use reading::Head;
+use values::InterpolatedValue;
 use weights::BarycentricWeights;
 ghost use mathlib.Core.Path.{_≡_};
 ghost use mathlib.Core.List.{_++_};
@@ -17,13 +18,10 @@ ghost use Rattle.gradient.specs.Gradient.{Valued};
 ghost use Rattle.estivolh.specs.Gradient.{gradientSays, gradientOn, gradientIn, estimateOf};
 ghost use Rattle.accepted.specs.Accepted.{Accepted};
 ghost use Rattle.locate.specs.Laws.{Holds};
-ghost use Rattle.estivolh.specs.Natural.{neighborsSay, placeRefusal, edgesLeft, edgesAt, edgesOn, edgesIn, naturalEdgesOf, settledTally, sharesLeft, sharesAt, sharesOn, sharesIn, naturalSharesOf};
-ghost use Rattle.neighbors.specs.Neighbors.{neighborsOf};
-ghost use Rattle.natural.specs.Facts.{verticesIn};
-ghost use Rattle.interpolate.specs.Values.{Owners};
-ghost use Rattle.estivolh.specs.Value.{valueSays, methodOf, byMethod, barycentricValue, naturalValue, valueAt, valueOn, valueIn, interpolateOf};
+ghost use Rattle.estivolh.specs.Natural.{neighborsSay, edgesLeft, edgesAt, edgesOn, edgesIn, naturalEdgesOf, settledTally, sharesLeft, sharesAt, sharesOn, sharesIn, naturalSharesOf};
+ghost use Rattle.estivolh.specs.Value.{valueSays, valueIn, interpolateOf};
 ghost use Rattle.estivolh.specs.Location.{positionSays, placed, locateOn, locateIn, locateOf};
-ghost use Rattle.estivolh.specs.Weights.{weightsSay, barycentricAt, barycentricOn, barycentricIn, barycentricOf};
+ghost use Rattle.estivolh.specs.Weights.{weightsSay, barycentricOn, barycentricIn, barycentricOf};
 
 // Room for the tables of the largest chart.
 fn vertex_room() -> [i64; 512]
@@ -132,26 +130,6 @@ pub fn locate(chart: &[u8], x: i64, y: i64) -> PositionInTriangulation
     }
 }
 
-// On checked tables: the weights at a location that was found there.
-fn weights_at(
-    vertices: &[i64],
-    edges: &[usize],
-    faces: &[usize],
-    q: Place,
-    place: Location,
-) -> BarycentricWeights
-    requires { ⌜ InRange (chartOf (now vertices) (now edges) (now faces)) ⌝ ∗ ⌜ OnGrid q ⌝ ∗ ⌜ place ≡ locationOf (chartOf (now vertices) (now edges) (now faces)) q ⌝ }
-    ensures { λ r. ⌜ r ≡ barycentricAt (chartOf (now (vertices .entry)) (now (edges .entry)) (now (faces .entry))) q place ⌝ }
-{
-    match place {
-        Location::OnVertex(v) => weights::vertex_weights(v),
-        Location::OnEdge(h) => weights::edge_weights(vertices, edges, faces, q, h),
-        Location::OnFace(f) => weights::face_weights(vertices, edges, faces, q, f),
-        Location::OutsideOfConvexHull(_) => BarycentricWeights::Refused(14),
-        Location::NoPlace => BarycentricWeights::Refused(15),
-    }
-}
-
 // On checked tables: 13, then the weights where the load lies.
 fn weights_on(vertices: &[i64], edges: &[usize], faces: &[usize], q: Place) -> BarycentricWeights
     requires { ⌜ InRange (chartOf (now vertices) (now edges) (now faces)) ⌝ }
@@ -161,7 +139,7 @@ fn weights_on(vertices: &[i64], edges: &[usize], faces: &[usize], q: Place) -> B
         return BarycentricWeights::Refused(13);
     }
     let place = locate::locate(vertices, edges, faces, q);
-    weights_at(vertices, edges, faces, q, place)
+    values::weights_at(vertices, edges, faces, q, place)
 }
 
 // In the body of a chart whose head has these counts.
@@ -244,26 +222,6 @@ pub enum NaturalNeighbors {
     Refused(u64),
 }
 
-// Room for the longest list of half-edges.
-fn list_room() -> [usize; 756]
-    ensures { λ r. ⌜ length r ≡ 756 ⌝ }
-{
-    [0usize; 756]
-}
-
-// 14 for a load outside the hull, 15 for one without a place, else 0.
-fn place_refusal(place: Location) -> u64
-    ensures { λ r. ⌜ r ≡ placeRefusal place ⌝ }
-{
-    match place {
-        Location::OnVertex(_) => 0,
-        Location::OnEdge(_) => 0,
-        Location::OnFace(_) => 0,
-        Location::OutsideOfConvexHull(_) => 14,
-        Location::NoPlace => 15,
-    }
-}
-
 // A list into the first elements of a lent slice.
 fn copy_list(list: &[usize], out: &mut [u64])
     requires { ⌜ length (now list) ≤ length (now out) ⌝ }
@@ -288,7 +246,7 @@ fn edges_at(
     requires { ⌜ Accepted (chartOf (now vertices) (now edges) (now faces)) ⌝ ∗ ⌜ OnGrid q ⌝ ∗ ⌜ Holds (chartOf (now vertices) (now edges) (now faces)) q place ⌝ ∗ ⌜ rows (now edges) ≤ length (now out) ⌝ }
     ensures { λ r. ⌜ edgesLeft (neighborsSay r) (now (out .exit)) ≡ edgesAt (chartOf (now (vertices .entry)) (now (edges .entry)) (now (faces .entry))) q place (now (out .entry)) ⌝ }
 {
-    let mut list = list_room();
+    let mut list = values::list_room();
     let found = neighbors::get_natural_neighbor_edges(vertices, edges, faces, q, place, &mut list);
     let n = found.count;
     copy_list(&list[..n], out);
@@ -310,7 +268,7 @@ fn edges_on(
         return NaturalNeighbors::Refused(13);
     }
     let place = locate::locate(vertices, edges, faces, q);
-    let refusal = place_refusal(place);
+    let refusal = values::place_refusal(place);
     if refusal != 0 {
         return NaturalNeighbors::Refused(refusal);
     }
@@ -380,7 +338,7 @@ fn shares_at(
     requires { ⌜ Accepted (chartOf (now vertices) (now edges) (now faces)) ⌝ ∗ ⌜ OnGrid q ⌝ ∗ ⌜ Holds (chartOf (now vertices) (now edges) (now faces)) q place ⌝ ∗ ⌜ rows (now edges) ≤ length (now owners) ⌝ ∗ ⌜ rows (now edges) ≤ length (now weights) ⌝ }
     ensures { λ r. ⌜ sharesLeft (neighborsSay r) (now (owners .exit)) (now (weights .exit)) ≡ sharesAt (chartOf (now (vertices .entry)) (now (edges .entry)) (now (faces .entry))) q place (now (owners .entry)) (now (weights .entry)) ⌝ }
 {
-    let mut list = list_room();
+    let mut list = values::list_room();
     let found = neighbors::get_natural_neighbor_edges(vertices, edges, faces, q, place, &mut list);
     let n = found.count;
     let refusal = natural::natural_weights(vertices, edges, faces, q, &list[..n], owners, weights);
@@ -403,7 +361,7 @@ fn shares_on(
         return NaturalNeighbors::Refused(13);
     }
     let place = locate::locate(vertices, edges, faces, q);
-    let refusal = place_refusal(place);
+    let refusal = values::place_refusal(place);
     if refusal != 0 {
         return NaturalNeighbors::Refused(refusal);
     }
@@ -460,174 +418,6 @@ pub fn natural_neighbor_weights(
     }
 }
 
-// The value, or the refusal.
-pub enum InterpolatedValue {
-    Value(f64),
-    Refused(u64),
-}
-
-// 1, 2 or 3, or 0 for an unknown method.
-fn method_number(method: i64) -> u64
-    ensures { λ r. ⌜ r ≡ methodOf method ⌝ }
-{
-    if method == 1 {
-        return 1;
-    }
-    if method == 2 {
-        return 2;
-    }
-    if method == 3 {
-        return 3;
-    }
-    0
-}
-
-// Method 1: the vertices' values by their barycentric weights.
-fn weighed_value(
-    vertices: &[i64],
-    edges: &[usize],
-    faces: &[usize],
-    w: BarycentricWeights,
-) -> InterpolatedValue
-    requires { ⌜ Valued (chartOf (now vertices) (now edges) (now faces)) ⌝ ∗ ⌜ Owners (chartOf (now vertices) (now edges) (now faces)) (verticesIn w) ⌝ }
-    ensures { λ r. ⌜ r ≡ barycentricValue (chartOf (now (vertices .entry)) (now (edges .entry)) (now (faces .entry))) w ⌝ }
-{
-    match w {
-        BarycentricWeights::OneVertex(u, a) => {
-            InterpolatedValue::Value(0.0 + points::value(vertices, u as usize) * a)
-        }
-        BarycentricWeights::TwoWeights(u, a, v, b) => {
-            let first = 0.0 + points::value(vertices, u as usize) * a;
-            InterpolatedValue::Value(first + points::value(vertices, v as usize) * b)
-        }
-        BarycentricWeights::ThreeWeights(u, a, v, b, t, d) => {
-            let first = 0.0 + points::value(vertices, u as usize) * a;
-            let second = first + points::value(vertices, v as usize) * b;
-            InterpolatedValue::Value(second + points::value(vertices, t as usize) * d)
-        }
-        BarycentricWeights::Refused(n) => InterpolatedValue::Refused(n),
-    }
-}
-
-// Methods 2 and 3, from the vertices and their weights.
-fn value_by(
-    vertices: &[i64],
-    edges: &[usize],
-    faces: &[usize],
-    method: u64,
-    q: Place,
-    owners: &[u64],
-    weights: &[f64],
-) -> f64
-    requires { ⌜ InRange (chartOf (now vertices) (now edges) (now faces)) ⌝ ∗ ⌜ Valued (chartOf (now vertices) (now edges) (now faces)) ⌝ ∗ ⌜ OnGrid q ⌝ }
-    requires { ⌜ Owners (chartOf (now vertices) (now edges) (now faces)) (now owners) ⌝ ∗ ⌜ length (now owners) ≡ length (now weights) ⌝ ∗ ⌜ length (now owners) ≤ 756 ⌝ }
-    ensures { λ r. ⌜ r ≡ byMethod method (chartOf (now (vertices .entry)) (now (edges .entry)) (now (faces .entry))) q (now (owners .entry)) (now (weights .entry)) ⌝ }
-{
-    if method == 2 {
-        return interpolate::value_sum(vertices, edges, faces, owners, weights);
-    }
-    interpolate::value_blend(vertices, edges, faces, q, owners, weights)
-}
-
-// Room for the vertices of the longest list.
-fn owner_room() -> [u64; 756]
-    ensures { λ r. ⌜ length r ≡ 756 ⌝ }
-{
-    [0u64; 756]
-}
-
-// Room for their weights.
-fn weight_room() -> [f64; 756]
-    ensures { λ r. ⌜ length r ≡ 756 ⌝ }
-{
-    [0.0; 756]
-}
-
-// Methods 2 and 3 at a location that was found.
-fn natural_value(
-    vertices: &[i64],
-    edges: &[usize],
-    faces: &[usize],
-    method: u64,
-    q: Place,
-    place: Location,
-) -> InterpolatedValue
-    requires { ⌜ Accepted (chartOf (now vertices) (now edges) (now faces)) ⌝ ∗ ⌜ OnGrid q ⌝ ∗ ⌜ Holds (chartOf (now vertices) (now edges) (now faces)) q place ⌝ }
-    ensures { λ r. ⌜ r ≡ naturalValue method (chartOf (now (vertices .entry)) (now (edges .entry)) (now (faces .entry))) q (neighborsOf (chartOf (now (vertices .entry)) (now (edges .entry)) (now (faces .entry))) q place .edges) ⌝ }
-{
-    let mut list = list_room();
-    let found = neighbors::get_natural_neighbor_edges(vertices, edges, faces, q, place, &mut list);
-    let n = found.count;
-    let mut owners = owner_room();
-    let mut weights = weight_room();
-    let refusal = natural::natural_weights(
-        vertices,
-        edges,
-        faces,
-        q,
-        &list[..n],
-        &mut owners,
-        &mut weights,
-    );
-    if refusal != 0 {
-        return InterpolatedValue::Refused(refusal);
-    }
-    let value = value_by(
-        vertices,
-        edges,
-        faces,
-        method,
-        q,
-        &owners[..n],
-        &weights[..n],
-    );
-    InterpolatedValue::Value(value)
-}
-
-// At a location that was found, by a known method.
-fn value_at(
-    vertices: &[i64],
-    edges: &[usize],
-    faces: &[usize],
-    method: u64,
-    q: Place,
-    place: Location,
-) -> InterpolatedValue
-    requires { ⌜ Accepted (chartOf (now vertices) (now edges) (now faces)) ⌝ ∗ ⌜ OnGrid q ⌝ ∗ ⌜ place ≡ locationOf (chartOf (now vertices) (now edges) (now faces)) q ⌝ }
-    ensures { λ r. ⌜ r ≡ valueAt method (chartOf (now (vertices .entry)) (now (edges .entry)) (now (faces .entry))) q place ⌝ }
-{
-    if method == 1 {
-        let w = weights_at(vertices, edges, faces, q, place);
-        return weighed_value(vertices, edges, faces, w);
-    }
-    natural_value(vertices, edges, faces, method, q, place)
-}
-
-// On checked tables: 12, 13, 14, 15, then the value.
-fn value_on(
-    vertices: &[i64],
-    edges: &[usize],
-    faces: &[usize],
-    method: u64,
-    q: Place,
-) -> InterpolatedValue
-    requires { ⌜ Accepted (chartOf (now vertices) (now edges) (now faces)) ⌝ }
-    ensures { λ r. ⌜ r ≡ valueOn method (chartOf (now (vertices .entry)) (now (edges .entry)) (now (faces .entry))) q ⌝ }
-{
-    if method == 0 {
-        return InterpolatedValue::Refused(12);
-    }
-    if geometry::off_grid(q) {
-        return InterpolatedValue::Refused(13);
-    }
-    let place = locate::locate(vertices, edges, faces, q);
-    let refusal = place_refusal(place);
-    if refusal != 0 {
-        return InterpolatedValue::Refused(refusal);
-    }
-    value_at(vertices, edges, faces, method, q, place)
-}
-
 // In the body of a chart whose head has these counts.
 fn value_in(chart: &[u8], v: usize, e: usize, f: usize, method: u64, q: Place) -> InterpolatedValue
     requires { ⌜ Counted v e f ⌝ }
@@ -642,7 +432,7 @@ fn value_in(chart: &[u8], v: usize, e: usize, f: usize, method: u64, q: Place) -
     }
     let a = 4 * v;
     let b = 4 * e;
-    value_on(&vertices[..a], &edges[..b], &faces[..f], method, q)
+    values::value_on(&vertices[..a], &edges[..b], &faces[..f], method, q)
 }
 
 // The value of the load at (x, y) on a chart, by method 1, 2 or 3.
@@ -652,6 +442,13 @@ pub fn interpolate(chart: &[u8], method: i64, x: i64, y: i64) -> InterpolatedVal
     let head = reading::read_head(chart);
     match head {
         Head::Refused(n) => InterpolatedValue::Refused(n),
-        Head::Counts(v, e, f) => value_in(chart, v, e, f, method_number(method), Place { x, y }),
+        Head::Counts(v, e, f) => value_in(
+            chart,
+            v,
+            e,
+            f,
+            values::method_number(method),
+            Place { x, y },
+        ),
     }
 }

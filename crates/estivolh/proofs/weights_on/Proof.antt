@@ -2,7 +2,8 @@
 use mathlib.Core.Path.{sym, ap, _∙_}
 use Rattle.geometry.specs.Plane.{on-grid}
 use Rattle.chart.specs.Chart.{chartOf}
-use Rattle.estivolh.specs.Weights.{barycentricAt, barycentricOn}
+use Rattle.values.specs.Located.{barycentricAt}
+use Rattle.estivolh.specs.Weights.{barycentricOn}
 use borrow.Author.Needs.{needs}
 use Rattle.estivolh.proofs.weights_on.Statement.{statement}
 use Rattle.estivolh.proofs.weights_on.Tie as tie

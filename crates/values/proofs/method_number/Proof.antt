@@ -1,11 +1,11 @@
--- `estivolh::method_number` meets its contract: each test is one of the definition's. Assumes nothing.
+-- `values::method_number` meets its contract: each test is one of the definition's. Assumes nothing.
 use lib.IntN.{pos}
 use mir.Syntax.{w64}
 use mir.Val.{SFits}
 use mir.Facts.{sfits-lit}
 use Rattle.whole.specs.Test.{bits-true, bits-false}
-use Rattle.estivolh.proofs.method_number.Statement.{statement}
-use Rattle.estivolh.proofs.method_number.Tie as tie
+use Rattle.values.proofs.method_number.Statement.{statement}
+use Rattle.values.proofs.method_number.Tie as tie
 
 one : SFits w64 (pos 1)
 one = sfits-lit tt

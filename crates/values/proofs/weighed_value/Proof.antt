@@ -1,4 +1,4 @@
--- `estivolh::weighed_value` meets its contract: each vertex is one of the chart. Assumes nothing.
+-- `values::weighed_value` meets its contract: each vertex is one of the chart. Assumes nothing.
 use mathlib.Core.Path.{subst}
 use native.Mathlib.Omega.{arith}
 use Rattle.chart.specs.Chart.{chartOf}
@@ -6,8 +6,8 @@ use Rattle.weights.specs.declared.BarycentricWeights.{BarycentricWeights}
 use Rattle.natural.specs.Facts.{verticesIn}
 use Rattle.interpolate.specs.Values.{Owners, sumFrom}
 use borrow.Author.Needs.{needs}
-use Rattle.estivolh.proofs.weighed_value.Statement.{statement}
-use Rattle.estivolh.proofs.weighed_value.Tie as tie
+use Rattle.values.proofs.weighed_value.Statement.{statement}
+use Rattle.values.proofs.weighed_value.Tie as tie
 
 enum-known-w : tie.Need-enum-known-w
 enum-known-w c = search needs

@@ -1,7 +1,7 @@
--- `estivolh::value_by` meets its contract: the sum or the blend. Assumes nothing.
+-- `values::value_by` meets its contract: the sum or the blend. Assumes nothing.
 use borrow.Author.Tests.{eq-eqb, ne-eqb}
-use Rattle.estivolh.proofs.value_by.Statement.{statement}
-use Rattle.estivolh.proofs.value_by.Tie as tie
+use Rattle.values.proofs.value_by.Statement.{statement}
+use Rattle.values.proofs.value_by.Tie as tie
 
 value-sum-requires : tie.Need-value-sum-requires
 value-sum-requires c κs = let p = c .before .before .before .before .before .pre in (p .0, (p .1 .0, (p .1 .1 .1 .0, p .1 .1 .1 .1 .0)))

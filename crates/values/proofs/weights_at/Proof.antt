@@ -1,11 +1,11 @@
--- `estivolh::weights_at` meets its contract: the number of a location that was found is in range. Assumes nothing.
+-- `values::weights_at` meets its contract: the number of a location that was found is in range. Assumes nothing.
 use mathlib.Core.Path.{sym, ap, _∙_}
 use Rattle.chart.specs.Chart.{chartOf}
 use Rattle.locate.specs.Laws.{located}
-use Rattle.estivolh.specs.Weights.{barycentricAt}
+use Rattle.values.specs.Located.{barycentricAt}
 use borrow.Author.Needs.{needs}
-use Rattle.estivolh.proofs.weights_at.Statement.{statement}
-use Rattle.estivolh.proofs.weights_at.Tie as tie
+use Rattle.values.proofs.weights_at.Statement.{statement}
+use Rattle.values.proofs.weights_at.Tie as tie
 
 enum-known-place : tie.Need-enum-known-place
 enum-known-place c = search needs

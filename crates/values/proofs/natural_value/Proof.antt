@@ -1,4 +1,4 @@
--- `estivolh::natural_value` meets its contract: what the weights call left is the vertices and the weights of the list. Assumes nothing.
+-- `values::natural_value` meets its contract: what the weights call left is the vertices and the weights of the list. Assumes nothing.
 use mathlib.Core.Path.{sym, subst, _∙_}
 use native.Mathlib.Omega.{arith}
 use lib.Seq.{length-take-le}
@@ -8,10 +8,10 @@ use Rattle.neighbors.specs.Answers.{answer-count, answer-edges}
 use Rattle.interpolate.specs.Values.{Owners}
 use Rattle.cavity.specs.Room.{roomy, list-within}
 use Rattle.cavity.specs.Listed.{listed-below}
-use Rattle.estivolh.specs.Value.{listed-owners, left-refused, left-owners, left-value}
+use Rattle.values.specs.Value.{listed-owners, left-refused, left-owners, left-value}
 use borrow.Author.Needs.{needs}
-use Rattle.estivolh.proofs.natural_value.Statement.{statement}
-use Rattle.estivolh.proofs.natural_value.Tie as tie
+use Rattle.values.proofs.natural_value.Statement.{statement}
+use Rattle.values.proofs.natural_value.Tie as tie
 
 list-room-requires : tie.Need-list-room-requires
 list-room-requires c κs = search needs

@@ -1,4 +1,4 @@
--- `estivolh::value_at` meets its contract: the vertices of the weights are the chart's. Assumes nothing.
+-- `values::value_at` meets its contract: the vertices of the weights are the chart's. Assumes nothing.
 use mathlib.Core.Path.{sym, ap, subst, _∙_}
 use borrow.Author.Tests.{eq-eqb, ne-eqb}
 use Rattle.chart.specs.Chart.{chartOf}
@@ -6,9 +6,9 @@ use Rattle.locate.specs.Laws.{located}
 use Rattle.weights.specs.declared.BarycentricWeights.{BarycentricWeights}
 use Rattle.natural.specs.Facts.{verticesIn}
 use Rattle.interpolate.specs.Values.{Owners}
-use Rattle.estivolh.specs.Value.{barycentricValue, barycentric-owners}
-use Rattle.estivolh.proofs.value_at.Statement.{statement}
-use Rattle.estivolh.proofs.value_at.Tie as tie
+use Rattle.values.specs.Value.{barycentricValue, barycentric-owners}
+use Rattle.values.proofs.value_at.Statement.{statement}
+use Rattle.values.proofs.value_at.Tie as tie
 
 weights-at-requires : tie.Need-weights-at-requires
 weights-at-requires c κs = let s = c .before .before .before in (s .pre .0 .range, s .pre .1)

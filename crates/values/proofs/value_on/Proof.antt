@@ -1,0 +1,37 @@
+-- `values::value_on` meets its contract: 12, 13, or the value where the load lies. Assumes nothing.
+use mathlib.Core.Path.{sym, _∙_}
+use borrow.Author.Tests.{eq-eqb, ne-eqb}
+use Rattle.geometry.specs.Plane.{on-grid}
+use Rattle.values.specs.Value.{valueOn}
+use borrow.Author.Needs.{needs}
+use Rattle.values.proofs.value_on.Statement.{statement}
+use Rattle.values.proofs.value_on.Tie as tie
+
+returns : tie.Need-returns
+unfolding valueOn
+returns c = rw (eq-eqb _ _ (c .if1 .taken))
+
+off-grid-requires : tie.Need-off-grid-requires
+off-grid-requires c κs = search needs
+
+returns-2 : tie.Need-returns-2
+unfolding valueOn
+returns-2 c = rw (ne-eqb _ _ (c .before .before .if1 .left), sym (c .before .off-grid .ensures) ∙ c .if2 .taken)
+
+located-value-requires : tie.Need-located-value-requires
+located-value-requires c κs = let s = c .before .before .before .before .before in (s .pre, on-grid (s .args .q) (sym (c .before .off-grid .ensures) ∙ c .if2 .left))
+
+returns-3 : tie.Need-returns-3
+unfolding valueOn
+returns-3 c =
+    rw (ne-eqb _ _ (c .before .before .before .if1 .left), sym (c .before .before .off-grid .ensures) ∙ c .before .if2 .left) (c .located-value .ensures)
+
+pub value-on-spec : {M : Type 1} → statement M
+value-on-spec =
+    tie.close
+    (tie.spec
+    returns
+    off-grid-requires
+    returns-2
+    located-value-requires
+    returns-3)
