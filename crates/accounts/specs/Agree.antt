@@ -13,9 +13,12 @@ use Rattle.whole.specs.Bools.{or-false}
 use Rattle.book.specs.declared.Book.{Book}
 use Rattle.book.specs.Books.{Limit, wearOf, countOf, totalWear, chargeBook, spliceBook, ValidBook}
 use Rattle.book.specs.Laws.{Room, charge-wear, charge-count, charge-other-wear, charge-other-count, charge-total, charge-valid, splice-wear, splice-count, splice-other-wear, splice-other-count, splice-total, splice-valid}
-use Rattle.accounts.specs.Entry.{Entry, Ruling, Bend, Splice, Refused}
+use Rattle.entries.specs.declared.Entry.{Entry}
+use Rattle.entries.specs.declared.Ruling.{Ruling}
+use Rattle.entries.specs.declared.Ruling.the-variants.{Bend, Splice, Refused}
+use Rattle.entries.specs.Ruling.{meets17, with17, answerOf}
 use Rattle.accounts.specs.Rulings.{Queries, Known, entryRuling, known}
-use Rattle.accounts.specs.Batch.{meets17, with17, answerOf, bookChange, bookVerdict, bookAfter, answersFrom}
+use Rattle.accounts.specs.Batch.{bookChange, bookVerdict, bookAfter, answersFrom}
 use Rattle.accounts.specs.Tally.{charges, wearSum, bendCount, Tally, put, noted, verdict, tallyFrom}
 use Rattle.accounts.specs.History.{sum-append, wear-bend, count-bend, live-bend-other, live-splice-same, live-splice-other, live-refused}
 
@@ -43,7 +46,7 @@ put-other : (s x : ℕ) (f : ℕ → ℕ) (i : ℕ) → (i ≡ s → ⊥) → pu
 put-other s x f i d = rw (ne-eqb i s d)
 
 -- ---- what 17 leaves
-room : {b : Book} → ValidBook b → (j n : ℕ) → meets17 (totalWear b) (countOf b j) n ≡ false → Room b j n
+pub room : {b : Book} → ValidBook b → (j n : ℕ) → meets17 (totalWear b) (countOf b j) n ≡ false → Room b j n
 room {b} v j n e =
     let q = or-false (ltb Limit (totalWear b + n)) (eqb (countOf b j) Limit) e in
     let d = eqb-false (countOf b j) Limit (q .1) in

@@ -10,24 +10,12 @@ use Rattle.book.specs.declared.Book.{Book}
 use Rattle.book.specs.declared.Returned.{Returned}
 use Rattle.book.specs.Books.{Limit, totalWear, countOf, chargeBook, spliceBook, badBook}
 use Rattle.reading.specs.Reading.{chartRefusalOf}
-use Rattle.accounts.specs.Entry.{Entry, EntryWidth, entriesOf, Ruling, Bend, Splice, Refused}
+use Rattle.entries.specs.declared.Entry.{Entry}
+use Rattle.entries.specs.declared.Ruling.{Ruling}
+use Rattle.entries.specs.declared.Ruling.the-variants.{Bend, Splice, Refused}
+use Rattle.entries.specs.Entry.{EntryWidth, entriesOf}
+use Rattle.entries.specs.Ruling.{with17, answerOf}
 use Rattle.accounts.specs.Rulings.{Queries, entryRuling}
-
--- 17: the charge would take the total above 10^12, or the section's count is 10^12
-abbrev pub meets17 : ℕ → ℕ → ℕ → Bool
-meets17 total count n = ltb Limit (total + n) || eqb count Limit
-
--- 12 to 17, in this order, by the total and the sections' counts
-abbrev pub with17 : ℕ → (ℕ → ℕ) → Ruling → Ruling
-with17 total count (Bend i n) = cond (meets17 total (count i) n) (Refused 17) (Bend i n)
-with17 total count (Splice i) = Splice i
-with17 total count (Refused k) = Refused k
-
--- an accepted bend answers n, a splice 0; a refused entry's answer is 2,000,000 plus the number
-abbrev pub answerOf : Ruling → ℕ
-answerOf (Bend i n) = n
-answerOf (Splice i) = 0
-answerOf (Refused k) = RefusedEntry + k
 
 -- an accepted entry changes the book by its kind, after a refused one the book is as before it
 abbrev pub bookChange : Book → Ruling → Book

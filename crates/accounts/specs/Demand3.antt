@@ -15,9 +15,13 @@ use Rattle.book.specs.declared.Book.{Book}
 use Rattle.book.specs.declared.Returned.{Returned}
 use Rattle.book.specs.Books.{SectionMax, badSections, ValidBook, zeroBook}
 use Rattle.book.specs.Laws.{fresh-wear, fresh-count, fresh-valid, valid-book}
-use Rattle.accounts.specs.Entry.{Entry, entriesOf, Ruling, Bend, Splice, Refused}
+use Rattle.entries.specs.declared.Entry.{Entry}
+use Rattle.entries.specs.declared.Ruling.{Ruling}
+use Rattle.entries.specs.declared.Ruling.the-variants.{Bend, Splice, Refused}
+use Rattle.entries.specs.Entry.{entriesOf}
+use Rattle.entries.specs.Ruling.{meets17, with17, answerOf}
 use Rattle.accounts.specs.Rulings.{Queries, Known, entryRuling, known}
-use Rattle.accounts.specs.Batch.{meets17, with17, answerOf, bookChange, bookVerdict, bookAfter, answersFrom, batchRefusal, Outcome, byRefusal}
+use Rattle.accounts.specs.Batch.{bookChange, bookVerdict, bookAfter, answersFrom, batchRefusal, Outcome, byRefusal}
 use Rattle.accounts.specs.Tally.{charges, bendCount, Tally, start, noted, verdict, tallyFrom, tally, IsAccepted}
 use Rattle.accounts.specs.Demand.{Call, does, refusalIn, fresh, after, answers, joined, OneChart, Demand3, Turn, Made, callsOf, lastBook, lastAnswers}
 use Rattle.accounts.specs.Agree.{Agree, Ran, ran, entries-valid}

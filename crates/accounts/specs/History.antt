@@ -6,7 +6,8 @@ use Prim.Native.Nat.{ℕ, _+_}
 use native.Mathlib.Omega.{arith}
 use lib.ListN.{length, length-append}
 use borrow.Author.Tests.{eq-eqb, ne-eqb}
-use Rattle.accounts.specs.Entry.{Ruling, Bend, Splice, Refused}
+use Rattle.entries.specs.declared.Ruling.{Ruling}
+use Rattle.entries.specs.declared.Ruling.the-variants.{Bend, Splice, Refused}
 use Rattle.accounts.specs.Tally.{bends, splices, keep, anySplice, since, liveBends, wearSum, bendCount, charges}
 
 -- ---- the filters, one ruling more at the end

@@ -1,4 +1,3 @@
-pub mod Entry
 pub mod Rulings
 pub mod Batch
 pub mod Tally

@@ -9,9 +9,13 @@ use Rattle.geometry.specs.Plane.{offGrid}
 use Rattle.ranges.specs.Ranges.{notBelow}
 use Rattle.book.specs.declared.Book.{Book}
 use Rattle.book.specs.Books.{Limit, wearOf, countOf}
-use Rattle.accounts.specs.Entry.{Entry, Ruling, Bend, Splice, Refused}
-use Rattle.accounts.specs.Rulings.{Queries, Value, entryRuling}
-use Rattle.accounts.specs.Batch.{meets17, bookAfter}
+use Rattle.entries.specs.declared.Entry.{Entry}
+use Rattle.entries.specs.declared.Ruling.{Ruling}
+use Rattle.entries.specs.declared.Ruling.the-variants.{Bend, Splice, Refused}
+use Rattle.entries.specs.Ruling.{meets17}
+use Rattle.values.specs.declared.InterpolatedValue.the-variants.{Value}
+use Rattle.accounts.specs.Rulings.{Queries, entryRuling}
+use Rattle.accounts.specs.Batch.{bookAfter}
 use Rattle.accounts.specs.Tally.{charges, wearSum, bendCount}
 use Rattle.accounts.specs.Demand.{fresh}
 

@@ -14,59 +14,34 @@ use Rattle.geometry.specs.declared.Place.{Place}
 use Rattle.geometry.specs.Plane.{offGrid}
 use Rattle.chart.specs.Tables.{unsigned}
 use Rattle.ranges.specs.Ranges.{notBelow}
+use Rattle.values.specs.declared.InterpolatedValue.{InterpolatedValue}
+use Rattle.values.specs.declared.InterpolatedValue.the-variants as I
+use Rattle.entries.specs.declared.Entry.{Entry}
+use Rattle.entries.specs.declared.Ruling.{Ruling}
+use Rattle.entries.specs.declared.Ruling.the-variants.{Bend, Splice, Refused}
+use Rattle.entries.specs.Entry.{isSplice, unknown, placeIn}
 use Rattle.charge.specs.Charging.{ChargeMax, offScale, chargeOf, chargeCase}
 use Rattle.charge.specs.Nearest.{on-scale}
-use Rattle.accounts.specs.Entry.{Entry, Ruling, Bend, Splice, Refused}
-
--- the value at a place, or the number that refuses it: 14 or 15
-pub data Valued : Type 0 where
-  Value : Float → Valued
-  Nowhere : ℕ → Valued
 
 -- what the chart's queries say: from the chart's bytes, a method and a place
 abbrev pub Queries : Type 0
-Queries = List ℕ → ℤ → Place → Valued
-
--- methods are 1 to 3
-abbrev pub MethodMax : ℕ
-MethodMax = 3
-
--- kind 1 bend, 2 splice
-abbrev pub isBend : Entry → Bool
-isBend e = eqZ (e .kind) (pos 1)
-
-abbrev pub isSplice : Entry → Bool
-isSplice e = eqZ (e .kind) (pos 2)
-
--- a splice whose x, y or method isn't 0
-abbrev pub untidy : Entry → Bool
-untidy e = not (eqZ (e .x) (pos 0) && (eqZ (e .y) (pos 0) && eqZ (e .method) (pos 0)))
-
--- 12: kind, section or (save a splice's) method unknown; a splice whose x, y or method isn't 0
-abbrev pub unknown : ℕ → Entry → Bool
-unknown s e =
-    notBelow s (e .section)
-    || cond (isSplice e) (untidy e) (cond (isBend e) (outside (pos 1) (pos MethodMax) (e .method)) true)
-
--- the load
-abbrev pub placeIn : Entry → Place
-placeIn e = record { x = e .x; y = e .y }
+Queries = List ℕ → ℤ → Place → InterpolatedValue
 
 -- 16, or a bend with its charge
 abbrev pub charged : ℕ → Float → Ruling
 charged i v = chargeCase (Bend i) Refused (chargeOf v)
 
 -- 14, 15 and 16
-abbrev pub located : ℕ → Valued → Ruling
-located i (Value v) = charged i v
-located i (Nowhere k) = Refused k
+abbrev pub located : ℕ → InterpolatedValue → Ruling
+located i (I.Value v) = charged i v
+located i (I.Refused k) = Refused k
 
 -- 12 to 16 in their order; 14 to 16 meet bends only, as no other kind is located or charged
 unfoldable pub entryRuling : Queries → ℕ → List ℕ → Entry → Ruling
 entryRuling Q s chart e =
     cond (unknown s e) (Refused 12)
     (cond (offGrid (placeIn e)) (Refused 13)
-    (cond (isSplice e) (Splice (unsigned (e .section))) (located (unsigned (e .section)) (Q chart (e .method) (placeIn e)))))
+    (cond (isSplice (e .kind)) (Splice (unsigned (e .section))) (located (unsigned (e .section)) (Q chart (e .method) (placeIn e)))))
 
 -- ---- what 12 and 16 leave: the section is one of s, the charge one of 0 to 1,000,000
 abbrev pub Known : ℕ → Ruling → Type 0
@@ -87,9 +62,9 @@ charged-known s i h v = go (offScale v) refl
     go true e = rw e tt
     go false e = rw e (h, on-scale v e .1)
 
-located-known : (s i : ℕ) → i < s → (a : Valued) → Known s (located i a)
-located-known s i h (Value v) = charged-known s i h v
-located-known s i h (Nowhere k) = tt
+located-known : (s i : ℕ) → i < s → (a : InterpolatedValue) → Known s (located i a)
+located-known s i h (I.Value v) = charged-known s i h v
+located-known s i h (I.Refused k) = tt
 
 pub known : (Q : Queries) (s : ℕ) (chart : List ℕ) (e : Entry) → Known s (entryRuling Q s chart e)
 unfolding entryRuling
@@ -103,11 +78,11 @@ known Q s chart e = go (unknown s e) refl
     third false h = located-known s i h (Q chart (e .method) (placeIn e))
 
     second : (b : Bool) → i < s
-        → Known s (cond b (Refused 13) (cond (isSplice e) (Splice i) (located i (Q chart (e .method) (placeIn e)))))
+        → Known s (cond b (Refused 13) (cond (isSplice (e .kind)) (Splice i) (located i (Q chart (e .method) (placeIn e)))))
     second true h = tt
-    second false h = third (isSplice e) h
+    second false h = third (isSplice (e .kind)) h
 
     go : (b : Bool) → unknown s e ≡ b → Known s (cond b (Refused 12)
-        (cond (offGrid (placeIn e)) (Refused 13) (cond (isSplice e) (Splice i) (located i (Q chart (e .method) (placeIn e))))))
+        (cond (offGrid (placeIn e)) (Refused 13) (cond (isSplice (e .kind)) (Splice i) (located i (Q chart (e .method) (placeIn e))))))
     go true h = tt
     go false h = second (offGrid (placeIn e)) (below s (e .section) (or-false (notBelow s (e .section)) _ h .0))

@@ -5,9 +5,11 @@ use Prim.Native.Nat.{ℕ, _+_}
 use lib.Dec.{eqb}
 use lib.ListN.{length}
 use Rattle.book.specs.Books.{sumOf}
-use Rattle.accounts.specs.Entry.{Entry, Ruling, Bend, Splice, Refused}
+use Rattle.entries.specs.declared.Entry.{Entry}
+use Rattle.entries.specs.declared.Ruling.{Ruling}
+use Rattle.entries.specs.declared.Ruling.the-variants.{Bend, Splice, Refused}
+use Rattle.entries.specs.Ruling.{with17}
 use Rattle.accounts.specs.Rulings.{Queries, entryRuling}
-use Rattle.accounts.specs.Batch.{with17}
 
 -- ---- the history: what became of the entries so far, in order
 -- the charge of an accepted bend; nothing else is charged

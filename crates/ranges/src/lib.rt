@@ -28,7 +28,7 @@ pub fn counts_refused(vertices: i64, edges: i64, faces: i64) -> bool
 }
 
 // Whether a number is negative or not below the count n.
-fn is_not_below(n: usize, z: i64) -> bool
+pub fn is_not_below(n: usize, z: i64) -> bool
     ensures { λ r. ⌜ r ≡ notBelow n z ⌝ }
 {
     if z < 0 {

@@ -1,8 +1,8 @@
 -- 01, "Gradient and value": the value of a load on a chart, behind the refusals of the query, the location and the turns.
 use mathlib.Core.Path.{_≡_, refl, ap, _∙_}
-use mathlib.Core.Bool.{cond}
+use mathlib.Core.Bool.{Bool, true, false, cond}
 use mathlib.Core.List.{List, [], _∷_, _++_, map}
-use Prim.Native.Nat.{ℕ, zero, suc, _<_}
+use Prim.Native.Nat.{ℕ, zero, suc, _≤_, _<_}
 use native.Mathlib.Nat.{not-suc-le-zero, le-of-suc-le-suc}
 use native.Mathlib.Omega.{arith}
 use lib.Dec.{eqb}
@@ -75,6 +75,50 @@ value-found (suc n) m c q l e = let o : ⊥ = omega arith in absurd o
 pub value-turned : (n m : ℕ) (c : Chart) (q : Place) (l : Location) → (n ≡ 0 → ⊥) → valueFrom n m c q l ≡ Refused n
 value-turned zero m c q l e = absurd (e refl)
 value-turned (suc n) m c q l e = refl
+
+-- ---- laws: the refusals of a value are at most 15
+abbrev pub Few : InterpolatedValue → Type 0
+Few (Value v) = Unit {0}
+Few (Refused k) = k ≤ 15
+
+few-cond : (b : Bool) (x y : InterpolatedValue) → Few x → Few y → Few (cond b x y)
+few-cond true x y f g = f
+few-cond false x y f g = g
+
+few-barycentric : (c : Chart) (q : Place) (l : Location) → Few (barycentricValue c (barycentricAt c q l))
+unfolding weighTwo weighThree
+few-barycentric c q (OnVertex v) = tt
+few-barycentric c q (OnEdge h) = tt
+few-barycentric c q (OnFace f) = tt
+few-barycentric c q (OutsideOfConvexHull h) = omega arith
+few-barycentric c q NoPlace = omega arith
+
+few-shares : (m : ℕ) (c : Chart) (q : Place) (os : List ℕ) (t : Shares) → Few (fromShares m c q os t)
+few-shares m c q os broken = omega arith
+few-shares m c q os (shares ws) = tt
+
+few-at : (m : ℕ) (c : Chart) (q : Place) (l : Location) → Few (valueAt m c q l)
+few-at m c q l =
+    few-cond (eqb m 1) (barycentricValue c (barycentricAt c q l)) (naturalValue m c q (neighborsOf c q l .edges)) (few-barycentric c q l)
+    (few-shares m c q (map (c .origin) (neighborsOf c q l .edges)) (sharesOf c q (neighborsOf c q l .edges)))
+
+few-from : (m : ℕ) (c : Chart) (q : Place) (l : Location) → Few (valueFrom (placeRefusal l) m c q l)
+few-from m c q (OnVertex v) = few-at m c q (OnVertex v)
+few-from m c q (OnEdge h) = few-at m c q (OnEdge h)
+few-from m c q (OnFace f) = few-at m c q (OnFace f)
+few-from m c q (OutsideOfConvexHull h) = omega arith
+few-from m c q NoPlace = omega arith
+
+pub few-refusals : (m : ℕ) (c : Chart) (q : Place) → Few (valueOn m c q)
+unfolding valueOn locatedValue
+few-refusals m c q =
+    few-cond (eqb m 0) (Refused 12) (cond (offGrid q) (Refused 13) (locatedValue m c q)) (omega arith)
+    (few-cond (offGrid q) (Refused 13) (locatedValue m c q) (omega arith) (few-from m c q (locationOf c q)))
+
+-- by a known method, on the grid, the value is that of the location
+pub value-located : (m : ℕ) (c : Chart) (q : Place) → eqb m 0 ≡ false → offGrid q ≡ false → valueOn m c q ≡ locatedValue m c q
+unfolding valueOn
+value-located m c q d e = rw (d, e)
 
 -- ---- laws: the vertices are vertices of the chart
 in-none : (c : Chart) → Owners c []

@@ -1,0 +1,86 @@
+-- `batch::work` meets its contract: the loop keeps `Running`. Assumes nothing.
+use mathlib.Core.Path.{_≡_, sym, ap, subst, _∙_}
+use mathlib.Core.List.{[]}
+use Prim.Native.Nat.{_+_, _-_, _*_, _/_}
+use native.Mathlib.Omega.{arith}
+use lib.ListN.{length, set}
+use Rattle.chart.specs.Chart.{chartOf}
+use Rattle.entries.specs.declared.Entry.{Entry}
+use Rattle.entries.specs.Entry.{EntryWidth, entryAt}
+use Rattle.batch.specs.declared.Step.{Step}
+use Rattle.batch.specs.Tables.{onTables, stepOf}
+use Rattle.batch.specs.Running.{Running, running-start, running-next, running-end}
+use Rattle.batch.proofs.work.Statement.{statement}
+use Rattle.batch.proofs.work.Tie as tie
+
+abbrev Inv-loop : tie.InvT-loop
+Inv-loop vertices edges faces entries answers₀ n b₀ i₀ answers b i = Running (onTables (chartOf vertices edges faces)) [] entries answers₀ n b₀ answers b i
+
+abbrev μ-loop : tie.MeasureT-loop
+μ-loop vertices edges faces entries answers₀ n b₀ i₀ answers b i = n - i
+
+loop-holds : tie.Need-loop-holds Inv-loop μ-loop
+loop-holds c = let s = c .before .before .before in let a = s .args in running-start (onTables (chartOf (a .vertices .now) (a .edges .now) (a .faces .now))) [] (a .entries .now) (a .answers .now) (length (a .entries .now) / EntryWidth) (a .book) (s .pre .1 .0)
+
+mul-entry-at : tie.Need-mul-entry-at Inv-loop μ-loop
+mul-entry-at c = omega arith
+
+entry-at-requires : tie.Need-entry-at-requires Inv-loop μ-loop
+entry-at-requires c κs = omega arith
+
+work-entry-requires : tie.Need-work-entry-requires Inv-loop μ-loop
+work-entry-requires c κs = (c .before .before .before .before .before .before .pre .0, c .before .before .loop .inv .valid)
+
+mul-answers : tie.Need-mul-answers Inv-loop μ-loop
+mul-answers c = omega arith
+
+slice-write-answers : tie.Need-slice-write-answers Inv-loop μ-loop
+slice-write-answers c = omega (arith, c .before .before .before .loop .inv .long, c .before .before .before .before .before .before .before .pre .1 .1)
+
+add-i : tie.Need-add-i Inv-loop μ-loop
+add-i c = omega arith
+
+loop-less : tie.Need-loop-less Inv-loop μ-loop
+loop-less c = omega arith
+
+-- the entry that the turn took
+stepped : (c : tie.After-work-entry Inv-loop μ-loop) → c .work-entry .result ≡ stepOf (onTables (chartOf (c .before .before .before .before .before .before .before .args .vertices .now) (c .before .before .before .before .before .before .before .args .edges .now) (c .before .before .before .before .before .before .before .args .faces .now))) [] (c .before .before .before .loop .b) (entryAt (c .before .before .before .before .before .before .before .args .entries .now) (c .before .before .before .loop .i * EntryWidth))
+stepped c =
+    let a = c .before .before .before .before .before .before .before .args in
+    c .work-entry .ensures ∙ ap (λ (e : Entry). stepOf (onTables (chartOf (a .vertices .now) (a .edges .now) (a .faces .now))) [] (c .before .before .before .loop .b) e) (c .before .entry-at .ensures)
+
+loop-again : tie.Need-loop-again Inv-loop μ-loop
+loop-again c =
+    let l = c .before .before .before .before .loop in
+    let s = c .before .before .before .before .before .before .before .before in
+    let a = s .args in
+    subst (λ (r : Step). Running (onTables (chartOf (a .vertices .now) (a .edges .now) (a .faces .now))) [] (a .entries .now) (a .answers .now) (length (a .entries .now) / EntryWidth) (a .book) (set (l .answers) (l .i) (r .answer)) (r .book) (l .i + 1)) (sym (stepped (c .before)))
+    (running-next (onTables (chartOf (a .vertices .now) (a .edges .now) (a .faces .now))) [] (a .entries .now) (a .answers .now) (length (a .entries .now) / EntryWidth) (a .book) (l .answers) (l .b) (l .i) (l .inv) (c .before .before .before .loop-test .taken) (s .pre .1 .1))
+
+same-length : tie.Need-same-length Inv-loop μ-loop
+same-length c = c .before .loop .inv .long
+
+returns : tie.Need-returns Inv-loop μ-loop
+returns c =
+    let s = c .before .before .before .before .before in
+    let a = s .args in
+    let l = c .before .loop in
+    running-end (onTables (chartOf (a .vertices .now) (a .edges .now) (a .faces .now))) [] (a .entries .now) (a .answers .now) (length (a .entries .now) / EntryWidth) (a .book) (l .answers) (l .b) (l .i) (l .inv) (c .loop-test .left) (s .pre .1 .1)
+
+pub work-spec : {M : Type 1} → statement M
+work-spec =
+    tie.close
+    (tie.spec
+    Inv-loop
+    μ-loop
+    loop-holds
+    mul-entry-at
+    entry-at-requires
+    work-entry-requires
+    mul-answers
+    slice-write-answers
+    add-i
+    loop-less
+    loop-again
+    same-length
+    returns)

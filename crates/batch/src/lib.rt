@@ -1,0 +1,167 @@
+// A batch's entries on checked tables (01, "Charge, entry, book"): the ruling on an entry, 12 to 17, and the loop.
+use book::Book;
+use charge::Charged;
+use entries::Entry;
+use entries::Ruling;
+use geometry::Place;
+use values::InterpolatedValue;
+ghost use mathlib.Core.Path.{_≡_};
+ghost use mathlib.Core.List.{[]};
+ghost use Prim.Native.Nat.{_≤_, _<_, _/_};
+ghost use lib.ListN.{length};
+ghost use Rattle.geometry.specs.Plane.{OnGrid};
+ghost use Rattle.chart.specs.Chart.{chartOf};
+ghost use Rattle.accepted.specs.Accepted.{Accepted};
+ghost use Rattle.values.specs.Value.{locatedValue};
+ghost use Rattle.charge.specs.Charging.{ChargeMax};
+ghost use Rattle.book.specs.Books.{ValidBook, totalWear, countOf};
+ghost use Rattle.entries.specs.Entry.{EntryWidth, entriesOf};
+ghost use Rattle.entries.specs.declared.Ruling.the-variants.{Bend};
+ghost use Rattle.entries.specs.Ruling.{with17};
+ghost use Rattle.accounts.specs.Rulings.{Known, charged, located, entryRuling};
+ghost use Rattle.accounts.specs.Batch.{bookChange, bookAfter, answersFrom, overlay};
+ghost use Rattle.batch.specs.Tables.{onTables, Changeable, stepOf, Worked, worked};
+
+// How many numbers an entry has (`EntryWidth`).
+const ENTRY_WIDTH: usize = 5;
+
+// An entry's answer, and the book after it.
+pub struct Step {
+    pub answer: u64,
+    pub book: Book,
+}
+
+// 16, or a bend with its charge.
+fn charged_bend(section: usize, value: f64) -> Ruling
+    ensures { λ r. ⌜ r ≡ charged section value ⌝ }
+{
+    match charge::charge(value) {
+        Charged::Whole(n) => Ruling::Bend(section, n),
+        Charged::Refused(k) => Ruling::Refused(k),
+    }
+}
+
+// 14 to 16 of a bend whose method is known and whose load is on the grid.
+fn located_bend(
+    vertices: &[i64],
+    edges: &[usize],
+    faces: &[usize],
+    section: usize,
+    method: u64,
+    q: Place,
+) -> Ruling
+    requires { ⌜ Accepted (chartOf (now vertices) (now edges) (now faces)) ⌝ ∗ ⌜ OnGrid q ⌝ }
+    ensures { λ r. ⌜ r ≡ located section (locatedValue method (chartOf (now (vertices .entry)) (now (edges .entry)) (now (faces .entry))) q) ⌝ }
+{
+    match values::located_value(vertices, edges, faces, method, q) {
+        InterpolatedValue::Value(v) => charged_bend(section, v),
+        InterpolatedValue::Refused(k) => Ruling::Refused(k),
+    }
+}
+
+// 12 to 16, from section count, chart and entry alone.
+fn ruling(
+    vertices: &[i64],
+    edges: &[usize],
+    faces: &[usize],
+    sections: u64,
+    e: Entry,
+) -> Ruling
+    requires { ⌜ Accepted (chartOf (now vertices) (now edges) (now faces)) ⌝ }
+    ensures { λ r. ⌜ r ≡ entryRuling (onTables (chartOf (now (vertices .entry)) (now (edges .entry)) (now (faces .entry)))) sections [] e ⌝ }
+{
+    if entries::is_unknown(sections, e) {
+        return Ruling::Refused(12);
+    }
+    let q = entries::place_in(e);
+    if geometry::off_grid(q) {
+        return Ruling::Refused(13);
+    }
+    let section = chart::to_unsigned(e.section);
+    if e.kind == 2 {
+        return Ruling::Splice(section);
+    }
+    let method = values::method_number(e.method);
+    located_bend(vertices, edges, faces, section, method, q)
+}
+
+// 17 of a bend, by the book.
+fn bend_verdict(book: Book, i: usize, n: u64) -> Ruling
+    requires { ⌜ ValidBook book ⌝ ∗ ⌜ i < book .sections ⌝ ∗ ⌜ n ≤ ChargeMax ⌝ }
+    ensures { λ r. ⌜ r ≡ with17 (totalWear book) (countOf book) (Bend i n) ⌝ }
+{
+    let count = book.bends[i];
+    if entries::is_full(book::total_wear(book), count, n) {
+        return Ruling::Refused(17);
+    }
+    Ruling::Bend(i, n)
+}
+
+// 17, which meets bends only.
+fn verdict(book: Book, ruling: Ruling) -> Ruling
+    requires { ⌜ ValidBook book ⌝ ∗ ⌜ Known (book .sections) ruling ⌝ }
+    ensures { λ r. ⌜ r ≡ with17 (totalWear book) (countOf book) ruling ⌝ }
+{
+    match ruling {
+        Ruling::Bend(i, n) => bend_verdict(book, i, n),
+        Ruling::Splice(i) => Ruling::Splice(i),
+        Ruling::Refused(k) => Ruling::Refused(k),
+    }
+}
+
+// The book after an entry.
+fn changed(book: Book, ruling: Ruling) -> Book
+    requires { ⌜ Changeable book ruling ⌝ }
+    ensures { λ r. ⌜ r ≡ bookChange book ruling ⌝ }
+{
+    match ruling {
+        Ruling::Bend(i, n) => book.charge(i, n),
+        Ruling::Splice(i) => book.splice(i),
+        Ruling::Refused(_) => book,
+    }
+}
+
+// One entry.
+fn work_entry(
+    vertices: &[i64],
+    edges: &[usize],
+    faces: &[usize],
+    book: Book,
+    e: Entry,
+) -> Step
+    requires { ⌜ Accepted (chartOf (now vertices) (now edges) (now faces)) ⌝ ∗ ⌜ ValidBook book ⌝ }
+    ensures { λ r. ⌜ r ≡ stepOf (onTables (chartOf (now (vertices .entry)) (now (edges .entry)) (now (faces .entry)))) [] book e ⌝ }
+{
+    let first = ruling(vertices, edges, faces, book.sections, e);
+    let last = verdict(book, first);
+    let answer = entries::answer_of(last);
+    Step {
+        answer,
+        book: changed(book, last),
+    }
+}
+
+// Every entry in order; the answers into the first elements of the lent slice.
+pub fn work(
+    vertices: &[i64],
+    edges: &[usize],
+    faces: &[usize],
+    book: Book,
+    entries: &[i64],
+    answers: &mut [u64],
+) -> Book
+    requires { ⌜ Accepted (chartOf (now vertices) (now edges) (now faces)) ⌝ ∗ ⌜ ValidBook book ⌝ ∗ ⌜ length (now entries) / EntryWidth ≤ length (now answers) ⌝ }
+    ensures { λ r. ⌜ worked r (now (answers .exit)) ≡ worked (bookAfter (onTables (chartOf (now (vertices .entry)) (now (edges .entry)) (now (faces .entry)))) [] book (entriesOf (now (entries .entry)))) (overlay (answersFrom (onTables (chartOf (now (vertices .entry)) (now (edges .entry)) (now (faces .entry)))) [] book (entriesOf (now (entries .entry)))) (now (answers .entry))) ⌝ }
+{
+    let n = entries.len() / ENTRY_WIDTH;
+    let mut b = book;
+    let mut i = 0;
+    while i < n {
+        let e = entries::entry_at(entries, i * ENTRY_WIDTH);
+        let s = work_entry(vertices, edges, faces, b, e);
+        answers[i] = s.answer;
+        b = s.book;
+        i += 1;
+    }
+    b
+}
