@@ -42,10 +42,13 @@ answersFrom Q chart b (e ∷ es) =
 abbrev pub overlay : List ℕ → List ℕ → List ℕ
 overlay new lent = new ++ drop (length new) lent
 
+-- 2: entry slice no multiple of five, or answer slice shorter than the number of entries
+abbrev pub badSlices : ℕ → ℕ → Bool
+badSlices numbers room = not (eqb (numbers % EntryWidth) 0) || ltb room (numbers / EntryWidth)
+
 -- 2 to 11, 0 for none: by the chart's bytes and the lengths of the entry slice and the answer slice
 abbrev pub callRefusal : List ℕ → ℕ → ℕ → ℕ
-callRefusal chart numbers room =
-    cond (not (eqb (numbers % EntryWidth) 0) || ltb room (numbers / EntryWidth)) 2 (chartRefusalOf chart)
+callRefusal chart numbers room = cond (badSlices numbers room) 2 (chartRefusalOf chart)
 
 -- 1 to 11
 abbrev pub batchRefusal : Book → List ℕ → ℕ → ℕ → ℕ

@@ -60,13 +60,7 @@ fn located_bend(
 }
 
 // 12 to 16, from section count, chart and entry alone.
-fn ruling(
-    vertices: &[i64],
-    edges: &[usize],
-    faces: &[usize],
-    sections: u64,
-    e: Entry,
-) -> Ruling
+fn ruling(vertices: &[i64], edges: &[usize], faces: &[usize], sections: u64, e: Entry) -> Ruling
     requires { ⌜ Accepted (chartOf (now vertices) (now edges) (now faces)) ⌝ }
     ensures { λ r. ⌜ r ≡ entryRuling (onTables (chartOf (now (vertices .entry)) (now (edges .entry)) (now (faces .entry)))) sections [] e ⌝ }
 {
@@ -122,13 +116,7 @@ fn changed(book: Book, ruling: Ruling) -> Book
 }
 
 // One entry.
-fn work_entry(
-    vertices: &[i64],
-    edges: &[usize],
-    faces: &[usize],
-    book: Book,
-    e: Entry,
-) -> Step
+fn work_entry(vertices: &[i64], edges: &[usize], faces: &[usize], book: Book, e: Entry) -> Step
     requires { ⌜ Accepted (chartOf (now vertices) (now edges) (now faces)) ⌝ ∗ ⌜ ValidBook book ⌝ }
     ensures { λ r. ⌜ r ≡ stepOf (onTables (chartOf (now (vertices .entry)) (now (edges .entry)) (now (faces .entry)))) [] book e ⌝ }
 {

@@ -80,6 +80,14 @@ refusal-none b e = go (badBook b) refl
     go true h = let z : _≡_ {A = ℕ} 1 0 = rw h at e in absurd (omega arith)
     go false h = h
 
+-- a number is one
+pub refusal-some : (b : Book) → (bookRefusal b ≡ 0 → ⊥) → badBook b ≡ true
+refusal-some b e = go (badBook b) refl
+  where
+    go : (t : Bool) → badBook b ≡ t → badBook b ≡ true
+    go true h = h
+    go false h = absurd (e (rw h))
+
 -- and 1 does not meet a valid book
 pub valid-book : (b : Book) → ValidBook b → badBook b ≡ false
 unfolding badBook

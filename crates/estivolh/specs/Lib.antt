@@ -3,3 +3,4 @@ pub mod Weights
 pub mod Gradient
 pub mod Natural
 pub mod Value
+pub mod Account

@@ -1,4 +1,7 @@
 // The public calls of Estivolh. Each takes a chart's bytes and checks them; none asks anything of its caller.
+use book::Book;
+use book::Returned;
+use charge::Charged;
 use geometry::Place;
 use locate::Location;
 use reading::Head;
@@ -6,7 +9,7 @@ use values::InterpolatedValue;
 use weights::BarycentricWeights;
 ghost use mathlib.Core.Path.{_≡_};
 ghost use mathlib.Core.List.{_++_};
-ghost use Prim.Native.Nat.{_≤_};
+ghost use Prim.Native.Nat.{_≤_, _/_};
 ghost use lib.ListN.{length, drop};
 ghost use Rattle.geometry.specs.Plane.{OnGrid};
 ghost use Rattle.chart.specs.Tables.{rows};
@@ -20,6 +23,10 @@ ghost use Rattle.accepted.specs.Accepted.{Accepted};
 ghost use Rattle.locate.specs.Laws.{Holds};
 ghost use Rattle.estivolh.specs.Natural.{neighborsSay, edgesLeft, edgesAt, edgesOn, edgesIn, naturalEdgesOf, settledTally, sharesLeft, sharesAt, sharesOn, sharesIn, naturalSharesOf};
 ghost use Rattle.estivolh.specs.Value.{valueSays, valueIn, interpolateOf};
+ghost use Rattle.book.specs.Books.{freshBook, ValidBook};
+ghost use Rattle.entries.specs.Entry.{EntryWidth};
+ghost use Rattle.accounts.specs.Batch.{badSlices, outcome, batchOf};
+ghost use Rattle.estivolh.specs.Account.{chargeSays, costOf, queries, batchIn};
 ghost use Rattle.estivolh.specs.Location.{positionSays, placed, locateOn, locateIn, locateOf};
 ghost use Rattle.estivolh.specs.Weights.{weightsSay, barycentricOn, barycentricIn, barycentricOf};
 
@@ -450,5 +457,85 @@ pub fn interpolate(chart: &[u8], method: i64, x: i64, y: i64) -> InterpolatedVal
             values::method_number(method),
             Place { x, y },
         ),
+    }
+}
+
+// What a value costs.
+pub fn charge(value: f64) -> Charged
+    ensures { λ r. ⌜ chargeSays r ≡ costOf value ⌝ }
+{
+    charge::charge(value)
+}
+
+// A fresh book of so many sections, or refusal 1 beside a book of none.
+pub fn fresh(sections: u64) -> Returned
+    ensures { λ r. ⌜ r ≡ freshBook sections ⌝ }
+{
+    book::fresh(sections)
+}
+
+// How many numbers an entry has (`EntryWidth`).
+const ENTRY_WIDTH: usize = 5;
+
+// Whether 2 meets an entry slice and an answer slice of these lengths.
+fn bad_slices(numbers: usize, room: usize) -> bool
+    ensures { λ r. ⌜ r ≡ badSlices numbers room ⌝ }
+{
+    if numbers % ENTRY_WIDTH != 0 {
+        return true;
+    }
+    room < numbers / ENTRY_WIDTH
+}
+
+// In the body of a chart whose head has these counts.
+fn batch_in(
+    chart: &[u8],
+    v: usize,
+    e: usize,
+    f: usize,
+    book: Book,
+    entries: &[i64],
+    answers: &mut [u64],
+) -> Returned
+    requires { ⌜ Counted v e f ⌝ ∗ ⌜ ValidBook book ⌝ ∗ ⌜ length (now entries) / EntryWidth ≤ length (now answers) ⌝ }
+    ensures { λ r. ⌜ outcome r (now (answers .exit)) ≡ batchIn (loadOf v e f (now (chart .entry))) book (now (entries .entry)) (now (answers .entry)) ⌝ }
+{
+    let mut vertices = vertex_room();
+    let mut edges = edge_room();
+    let mut faces = face_room();
+    let refusal = reading::load(chart, v, e, f, &mut vertices, &mut edges, &mut faces);
+    if refusal != 0 {
+        return Returned { refusal, book };
+    }
+    let a = 4 * v;
+    let b = 4 * e;
+    let after = batch::work(
+        &vertices[..a],
+        &edges[..b],
+        &faces[..f],
+        book,
+        entries,
+        answers,
+    );
+    Returned {
+        refusal: 0,
+        book: after,
+    }
+}
+
+// A batch of entries on a book, under a chart that is checked once: the new book, and an answer for each entry.
+pub fn batch(book: Book, chart: &[u8], entries: &[i64], answers: &mut [u64]) -> Returned
+    ensures { λ r. ⌜ outcome r (now (answers .exit)) ≡ batchOf queries book (now (chart .entry)) (now (entries .entry)) (now (answers .entry)) ⌝ }
+{
+    if book::book_refusal(book) != 0 {
+        return Returned { refusal: 1, book };
+    }
+    if bad_slices(entries.len(), answers.len()) {
+        return Returned { refusal: 2, book };
+    }
+    let head = reading::read_head(chart);
+    match head {
+        Head::Refused(n) => Returned { refusal: n, book },
+        Head::Counts(v, e, f) => batch_in(chart, v, e, f, book, entries, answers),
     }
 }

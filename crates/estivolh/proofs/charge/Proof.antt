@@ -1,0 +1,15 @@
+-- `estivolh::charge` meets its contract: it is the charge. Assumes nothing.
+use mathlib.Core.Path.{_≡_, sym, ap, _∙_}
+use Rattle.estivolh.specs.Account.{chargeSays}
+use borrow.Author.Needs.{needs}
+use Rattle.estivolh.proofs.charge.Statement.{statement}
+use Rattle.estivolh.proofs.charge.Tie as tie
+
+charge-requires : tie.Need-charge-requires
+charge-requires c κs = search needs
+
+returns : tie.Need-returns
+returns c = ap chargeSays (c .charge .ensures)
+
+pub charge-spec : {M : Type 1} → statement M
+charge-spec = tie.close (tie.spec charge-requires returns)
