@@ -59,6 +59,26 @@ abbrev pub OneChart : List ℕ → List Call → Type 0
 OneChart chart [] = Unit {0}
 OneChart chart (c ∷ cs) = (refusalIn c ≡ 0 → c .chart ≡ chart) × OneChart chart cs
 
+-- what the demand says of the book b and the answers at the end, t the tally of the entries es
+pub record Accounted (s : ℕ) (es : List Entry) (t : Tally) (b : Book) (given : List ℕ) : Type 0 where
+  -- a section's wear equals the sum of the charges for its accepted bends after its last accepted splice
+  pub wear-is-sum : (i : ℕ) → i < s → wearOf b i ≡ wearSum i (t .history)
+  -- and its bend count is the number of these bends
+  pub count-is-number : (i : ℕ) → i < s → countOf b i ≡ bendCount i (t .history)
+  -- each entry has one answer
+  pub one-answer-each : length given ≡ length es
+  -- it is accepted exactly when the tally accepts it
+  pub accepted-exactly : (k : ℕ) → k < length es → (getD given k 0 < RefusedEntry) ↔ IsAccepted (getD (t .history) k (Splice 0))
+  -- and gets the tally's answer
+  pub answers-are-tallys : given ≡ map answerOf (t .history)
+  -- the book's numbers are the tally's, retired wear included
+  pub wear-is-tallys : (i : ℕ) → i < s → wearOf b i ≡ t .wear i
+  pub count-is-tallys : (i : ℕ) → i < s → countOf b i ≡ t .count i
+  pub retired-is-tallys : b .retired ≡ t .retired
+  pub sections-kept : b .sections ≡ s
+  -- wear of all sections plus retired wear equals the sum of all accepted charges
+  pub wear-plus-retired : totalWear b ≡ charges (t .history)
+
 -- the sentences of demand 3, of the list cs; t is the tally of its joined entries
 pub record Demand3 (Q : Queries) (s : ℕ) (chart : List ℕ) (cs : List Call) (t : Tally) : Type 0 where
   -- 1 never meets a book on the way
@@ -68,24 +88,8 @@ pub record Demand3 (Q : Queries) (s : ℕ) (chart : List ℕ) (cs : List Call) (
   pub unchanged-when-refused :
       (p : List Call) (c : Call) (q : List Call) → cs ≡ p ++ (c ∷ q) → (refusalIn c ≡ 0 → ⊥)
       → (does Q (after Q (fresh s) p) c .book ≡ after Q (fresh s) p) × (does Q (after Q (fresh s) p) c .answers ≡ c .lent)
-  -- a section's wear equals the sum of the charges for its accepted bends after its last accepted splice
-  pub wear-is-sum : (i : ℕ) → i < s → wearOf (after Q (fresh s) cs) i ≡ wearSum i (t .history)
-  -- and its bend count is the number of these bends
-  pub count-is-number : (i : ℕ) → i < s → countOf (after Q (fresh s) cs) i ≡ bendCount i (t .history)
-  -- each entry has one answer
-  pub one-answer-each : length (answers Q (fresh s) cs) ≡ length (joined cs)
-  -- it is accepted exactly when the tally accepts it
-  pub accepted-exactly :
-      (k : ℕ) → k < length (joined cs) → (getD (answers Q (fresh s) cs) k 0 < RefusedEntry) ↔ IsAccepted (getD (t .history) k (Splice 0))
-  -- and gets the tally's answer
-  pub answers-are-tallys : answers Q (fresh s) cs ≡ map answerOf (t .history)
-  -- the book's numbers are the tally's, retired wear included
-  pub wear-is-tallys : (i : ℕ) → i < s → wearOf (after Q (fresh s) cs) i ≡ t .wear i
-  pub count-is-tallys : (i : ℕ) → i < s → countOf (after Q (fresh s) cs) i ≡ t .count i
-  pub retired-is-tallys : after Q (fresh s) cs .retired ≡ t .retired
-  pub sections-kept : after Q (fresh s) cs .sections ≡ s
-  -- wear of all sections plus retired wear equals the sum of all accepted charges
-  pub wear-plus-retired : totalWear (after Q (fresh s) cs) ≡ charges (t .history)
+  -- the entries of the others, joined in order, are what counts
+  pub accounted : Accounted s (joined cs) t (after Q (fresh s) cs) (answers Q (fresh s) cs)
   -- two such lists alike in section count, chart and joined entries give the same answers and the same book
   pub division-does-not-matter :
       (ds : List Call) → OneChart chart ds → joined ds ≡ joined cs
@@ -117,3 +121,15 @@ abbrev pub lastAnswers : List Turn → List ℕ
 lastAnswers [] = []
 lastAnswers (t ∷ ts) =
     cond (eqb (t .result .refusal) 0) (take (length (entriesOf (t .call .entries))) (t .left)) [] ++ lastAnswers ts
+
+-- the same sentences of calls that were made
+pub record Demand3Made (Q : Queries) (s : ℕ) (chart : List ℕ) (ts : List Turn) (t : Tally) : Type 0 where
+  pub never-one : (p : List Turn) (q : List Turn) → ts ≡ p ++ q → badBook (lastBook (fresh s) p) ≡ false
+  pub refused-exactly : (p : List Turn) (u : Turn) (q : List Turn) → ts ≡ p ++ (u ∷ q) → u .result .refusal ≡ refusalIn (u .call)
+  pub unchanged-when-refused :
+      (p : List Turn) (u : Turn) (q : List Turn) → ts ≡ p ++ (u ∷ q) → (refusalIn (u .call) ≡ 0 → ⊥)
+      → (u .result .book ≡ lastBook (fresh s) p) × (u .left ≡ u .call .lent)
+  pub accounted : Accounted s (joined (callsOf ts)) t (lastBook (fresh s) ts) (lastAnswers ts)
+  pub division-does-not-matter :
+      (us : List Turn) → Made Q (fresh s) us → OneChart chart (callsOf us) → joined (callsOf us) ≡ joined (callsOf ts)
+      → (lastAnswers us ≡ lastAnswers ts) × (lastBook (fresh s) us ≡ lastBook (fresh s) ts)

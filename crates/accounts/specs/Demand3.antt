@@ -1,4 +1,4 @@
--- Demand 3, whole: `demand3`; and the tie to the code, `made-book` and `made-answers`. Assumes nothing.
+-- Demand 3, whole: `demand3`; and of calls that were made, `demand3-made`. Assumes nothing.
 use mathlib.Core.Path.{_≡_, refl, sym, _∙_, ap, subst}
 use mathlib.Core.Logic.{_↔_}
 use mathlib.Core.List.{List, [], _∷_, _++_, map}
@@ -21,9 +21,9 @@ use Rattle.entries.specs.declared.Ruling.the-variants.{Bend, Splice, Refused}
 use Rattle.entries.specs.Entry.{entriesOf}
 use Rattle.entries.specs.Ruling.{meets17, with17, answerOf}
 use Rattle.accounts.specs.Rulings.{Queries, Known, entryRuling, known}
-use Rattle.accounts.specs.Batch.{bookChange, bookVerdict, bookAfter, answersFrom, batchRefusal, Outcome, byRefusal}
+use Rattle.accounts.specs.Batch.{bookChange, bookVerdict, bookAfter, answersFrom, batchRefusal, Outcome, outcome, byRefusal}
 use Rattle.accounts.specs.Tally.{charges, bendCount, Tally, start, noted, verdict, tallyFrom, tally, IsAccepted}
-use Rattle.accounts.specs.Demand.{Call, does, refusalIn, fresh, after, answers, joined, OneChart, Demand3, Turn, Made, callsOf, lastBook, lastAnswers}
+use Rattle.accounts.specs.Demand.{Call, does, refusalIn, fresh, after, answers, joined, OneChart, Accounted, Demand3, Turn, Made, callsOf, lastBook, lastAnswers, Demand3Made}
 use Rattle.accounts.specs.Agree.{Agree, Ran, ran, entries-valid}
 
 -- ---- the fresh book
@@ -215,32 +215,72 @@ module _ (Q : Queries) where
         unchanged-when-refused = λ p c q w n.
             let d = does-refused (after Q (fresh s) p) c (after-valid p (fresh s) (a .valid)) (refusalIn c) refl n in
             (ap (λ (o : Outcome). o .book) d, ap (λ (o : Outcome). o .answers) d);
-        wear-is-sum = λ i q. e .wears i ∙ e .sums i;
-        count-is-number = λ i q. e .counts i ∙ e .numbers i;
-        one-answer-each = ap length (f .given) ∙ answers-length chart (joined cs) (fresh s);
-        accepted-exactly = λ j q.
-            subst (λ (x : ℕ). (x < RefusedEntry) ↔ IsAccepted (getD (t .history) j (Splice 0)))
-            (sym (ap (λ (l : List ℕ). getD l j 0) g ∙ List·getD-map answerOf (t .history) j (Splice 0)))
-            (by-answer s (getD (t .history) j (Splice 0)) (known-at s h (t .history) (tally-known s chart (joined cs) start tt) j));
-        answers-are-tallys = g;
-        wear-is-tallys = λ i q. e .wears i;
-        count-is-tallys = λ i q. e .counts i;
-        retired-is-tallys = e .retired;
-        sections-kept = e .sections;
-        wear-plus-retired = e .total;
+        accounted = record {
+          wear-is-sum = λ i q. e .wears i ∙ e .sums i;
+          count-is-number = λ i q. e .counts i ∙ e .numbers i;
+          one-answer-each = ap length (f .given) ∙ answers-length chart (joined cs) (fresh s);
+          accepted-exactly = λ j q.
+              subst (λ (x : ℕ). (x < RefusedEntry) ↔ IsAccepted (getD (t .history) j (Splice 0)))
+              (sym (ap (λ (l : List ℕ). getD l j 0) g ∙ List·getD-map answerOf (t .history) j (Splice 0)))
+              (by-answer s (getD (t .history) j (Splice 0)) (known-at s h (t .history) (tally-known s chart (joined cs) start tt) j));
+          answers-are-tallys = g;
+          wear-is-tallys = λ i q. e .wears i;
+          count-is-tallys = λ i q. e .counts i;
+          retired-is-tallys = e .retired;
+          sections-kept = e .sections;
+          wear-plus-retired = e .total;
+        };
         division-does-not-matter = λ ds two same.
             let d : Flat chart ds (fresh s) = flat chart ds two (fresh s) (a .valid) in
             (d .given ∙ ap (answersFrom Q chart (fresh s)) same ∙ sym (f .given), d .book ∙ ap (bookAfter Q chart (fresh s)) same ∙ sym (f .book));
       }
 
   -- ---- what was returned and left, call by call, is what `after` and `answers` say: so demand 3 is about the code
-  pub made-book : (ts : List Turn) (b : Book) → Made Q b ts → lastBook b ts ≡ after Q b (callsOf ts)
+  made-book : (ts : List Turn) (b : Book) → Made Q b ts → lastBook b ts ≡ after Q b (callsOf ts)
   made-book [] b m = refl
   made-book (t ∷ ts) b m = made-book ts (t .result .book) (m .1) ∙ ap (λ (o : Outcome). after Q (o .book) (callsOf ts)) (m .0)
 
-  pub made-answers : (ts : List Turn) (b : Book) → Made Q b ts → lastAnswers ts ≡ answers Q b (callsOf ts)
+  made-answers : (ts : List Turn) (b : Book) → Made Q b ts → lastAnswers ts ≡ answers Q b (callsOf ts)
   made-answers [] b m = refl
   made-answers (t ∷ ts) b m =
       let n = length (entriesOf (t .call .entries)) in
       ap (λ (l : List ℕ). cond (eqb (t .result .refusal) 0) (take n (t .left)) [] ++ l) (made-answers ts (t .result .book) (m .1))
       ∙ ap (λ (o : Outcome). cond (eqb (o .refusal) 0) (take n (o .answers)) [] ++ answers Q (o .book) (callsOf ts)) (m .0)
+
+  -- a call among those made: what it returned and left is what the batch does on the book before it
+  made-at : (p : List Turn) (u : Turn) (q : List Turn) (b : Book) → Made Q b (p ++ (u ∷ q))
+      → outcome (u .result) (u .left) ≡ does Q (lastBook b p) (u .call)
+  made-at [] u q b m = m .0
+  made-at (t ∷ p) u q b m = made-at p u q (t .result .book) (m .1)
+
+  made-front : (p : List Turn) (q : List Turn) (b : Book) → Made Q b (p ++ q) → Made Q b p
+  made-front [] q b m = tt
+  made-front (t ∷ p) q b m = (m .0, made-front p q (t .result .book) (m .1))
+
+  pub demand3-made : (s : ℕ) → 1 ≤ s → s ≤ SectionMax → (chart : List ℕ) (ts : List Turn) → Made Q (fresh s) ts → OneChart chart (callsOf ts)
+      → Demand3Made Q s chart ts (tally Q s chart (joined (callsOf ts)))
+  demand3-made s h k chart ts m one =
+      let d : Demand3 Q s chart (callsOf ts) (tally Q s chart (joined (callsOf ts))) = demand3 s h k chart (callsOf ts) one in
+      let front : (p q : List Turn) → ts ≡ p ++ q → Made Q (fresh s) p =
+      λ p q w. made-front p q (fresh s) (subst (λ (l : List Turn). Made Q (fresh s) l) w m)
+      in
+      let valid : (p q : List Turn) → ts ≡ p ++ q → ValidBook (lastBook (fresh s) p) =
+      λ p q w. subst ValidBook (sym (made-book p (fresh s) (front p q w))) (after-valid (callsOf p) (fresh s) (fresh-agrees s h k .valid))
+      in
+      let at : (p : List Turn) (u : Turn) (q : List Turn) → ts ≡ p ++ (u ∷ q) → outcome (u .result) (u .left) ≡ does Q (lastBook (fresh s) p) (u .call) =
+      λ p u q w. made-at p u q (fresh s) (subst (λ (l : List Turn). Made Q (fresh s) l) w m)
+      in
+      record {
+        never-one = λ p q w. valid-book (lastBook (fresh s) p) (valid p q w);
+        refused-exactly = λ p u q w.
+            ap (λ (o : Outcome). o .refusal) (at p u q w) ∙ does-refusal (lastBook (fresh s) p) (u .call) (valid p (u ∷ q) w);
+        unchanged-when-refused = λ p u q w n.
+            let o = at p u q w ∙ does-refused (lastBook (fresh s) p) (u .call) (valid p (u ∷ q) w) (refusalIn (u .call)) refl n in
+            (ap (λ (x : Outcome). x .book) o, ap (λ (x : Outcome). x .answers) o);
+        accounted =
+            subst (λ (b : Book). Accounted s (joined (callsOf ts)) (tally Q s chart (joined (callsOf ts))) b (lastAnswers ts)) (sym (made-book ts (fresh s) m))
+            (subst (λ (l : List ℕ). Accounted s (joined (callsOf ts)) (tally Q s chart (joined (callsOf ts))) (after Q (fresh s) (callsOf ts)) l) (sym (made-answers ts (fresh s) m)) (d .accounted));
+        division-does-not-matter = λ us n two same.
+            let v = d .division-does-not-matter (callsOf us) two same in
+            (made-answers us (fresh s) n ∙ v .0 ∙ sym (made-answers ts (fresh s) m), made-book us (fresh s) n ∙ v .1 ∙ sym (made-book ts (fresh s) m));
+      }
