@@ -20,11 +20,14 @@ use Rattle.checks.specs.Checks.{chartRefusal, tablesRefusal}
 use Rattle.reading.specs.Reading.{countsOf, headOf, bodyOf, loadOf, chartIn}
 use Rattle.locate.specs.declared.Location.the-variants.{OnVertex, OnEdge, OnFace, OutsideOfConvexHull}
 use Rattle.locate.specs.Location.{locationOf}
+use Rattle.neighbors.specs.Neighbors.{edgeNeighbors, neighborsOf}
 use Rattle.weights.specs.Barycentric.{twoPointInterpolation, barycentricInterpolation, weighTwo, weighThree}
 use Rattle.estivolh.specs.Location.{locateOn, locateOf}
 use Rattle.estivolh.specs.Location.Located.{at, turnedDown}
 use Rattle.estivolh.specs.Weights.{Weighted, barycentricOn, barycentricOf}
 use Rattle.estivolh.specs.Weights.Shares.{shares}
+use Rattle.estivolh.specs.Natural.{edgesLeft, edgesOn, naturalEdgesOf}
+use Rattle.estivolh.specs.Natural.Tally.{listed}
 use Rattle.rim.specs.TriangleA.{fileA, verticesA, edgesA, facesA}
 
 -- a vertex with its weight, by the weight's bits
@@ -51,6 +54,8 @@ pub record Rows : Type 0 where
   pub past-the-end : locateOf fileA (pos 15) (pos 0) ≡ at (OutsideOfConvexHull 3)
   -- corners are not read from the adjacent edge: prev comes first
   pub corners : barycentricOf fileA (pos 2) (pos 3) ≡ shares (with-bits 2 4599075939470750515 ∷ with-bits 0 4602678819172646912 ∷ with-bits 1 4596373779694328216 ∷ [])
+  -- the hull-edge pair is not reversed: the edge, then its partner; no face is opened, and the rest of the slice is as it was
+  pub hull-pair : naturalEdgesOf fileA (pos 5) (pos 0) (9 ∷ 9 ∷ 9 ∷ 9 ∷ 9 ∷ 9 ∷ []) ≡ edgesLeft (listed 2 0) (0 ∷ 1 ∷ 9 ∷ 9 ∷ 9 ∷ 9 ∷ [])
   -- on an edge its origin comes first
   pub ends : barycentricOf fileA (pos 5) (pos 5) ≡ shares (with-bits 1 4602678819172646912 ∷ with-bits 2 4602678819172646912 ∷ [])
   -- the grid's end is on the grid, what follows is off it
@@ -58,7 +63,7 @@ pub record Rows : Type 0 where
   pub off : locateOf fileA (pos 10001) (pos 0) ≡ turnedDown 13
 
 pub rows : Rows
-unfolding fileA verticesA edgesA facesA from eqs spacesOf digitsOf columns lastDigit fieldText valueOf candidate fieldOf lineOf tableOf offGrid crossOf dotOf norm2Of side lifted circle onOpenSegment countsRefused notBelow badVertex badHalfEdge badFace outOfRange linked linksBroken chartRefusal tablesRefusal countsOf headOf bodyOf loadOf chartIn locationOf locateOn twoPointInterpolation barycentricInterpolation weighTwo weighThree barycentricOn add sub mul div ofBits ofInt le neg
+unfolding fileA verticesA edgesA facesA from eqs spacesOf digitsOf columns lastDigit fieldText valueOf candidate fieldOf lineOf tableOf offGrid crossOf dotOf norm2Of side lifted circle onOpenSegment countsRefused notBelow badVertex badHalfEdge badFace outOfRange linked linksBroken chartRefusal tablesRefusal countsOf headOf bodyOf loadOf chartIn locationOf locateOn twoPointInterpolation barycentricInterpolation weighTwo weighThree barycentricOn edgeNeighbors neighborsOf edgesOn add sub mul div ofBits ofInt le neg
 rows =
     record {
       vertex = refl;
@@ -71,6 +76,7 @@ rows =
       in-circle = refl;
       past-the-end = refl;
       corners = refl;
+      hull-pair = refl;
       ends = refl;
       last = refl;
       off = refl;
