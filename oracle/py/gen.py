@@ -561,6 +561,22 @@ def fixed(rnd, write):
             write(p, 'queries.txt', '%d %d\n' % q)
     put('f09', lattice_circle(5525)[:48] + [(0, 0)], 'one vertex in the middle of a lattice circle')
 
+    def widest(p, P, opp, q, note):  # loads that have every vertex as a neighbour: no search opens more faces (README.md)
+        c = chart_of(P, opp, [i * 7919 % 1000001 for i in range(len(P))], random.Random(1))
+        f = locate(c, q[0])[1]
+        c.f[f] = next(h for h in c.edges_of(f) if c.face(h ^ 1) == 0 and c.face(c.nxt(h) ^ 1))  # the stack is then deepest
+        write(p, 'chart.txt', c.text())
+        write(p, 'expect.txt', '%d %s\n' % (refusal(c.text()), note))
+        write(p, 'rooms.txt', '%d\n%d\n' % (len(c.h) - 1, len(c.h)))
+        write(p, 'queries.txt', ''.join('%d %d\n' % x for x in q))
+
+    ring = sorted(((11 * x, 11 * y) for x, y in lattice_circle(801125)), key=lambda a: math.atan2(a[1], a[0]))
+    fan = {}
+    for i in range(1, 127): fan[0, i], fan[i, i + 1], fan[i + 1, 0] = i + 1, 0, i
+    widest('f22', ring, fan, [(-9794, -851), (0, 0)], '128 vertices on a circle, 126 faces to open in a fan; from a face, and from an edge')
+    curve = [(64 * i, 3000 - i * (i + 1) // 2) for i in range(125)] + [(-8500, 8500), (2000, 5500), (9500, -7000)]
+    widest('f23', curve, delaunay(curve, random.Random(1)), [(-1500, 2500)], '128 vertices, 756 half-edges, 252 faces, 126 of them to open')
+
 
 def systematic(write):
     """Triangle A with one thing changed, for every cell and every rule of the text; returns the number of cases."""
