@@ -3,6 +3,7 @@ use mathlib.Core.Path.{_≡_, refl}
 use mathlib.Core.List.{List}
 use mathlib.Core.Bool.{Bool, true, false, not, cond, _&&_, _||_, true≢false}
 use Prim.Native.Nat.{ℕ, _≤_, _<_}
+use native.Mathlib.Omega.{arith}
 use lib.Dec.{ltb}
 use lib.IntN.{ℤ, pos, negsuc}
 use lib.Ieee.{Float}
@@ -85,4 +86,4 @@ known Q s chart e = go (unknown s e) refl
     go : (b : Bool) → unknown s e ≡ b → Known s (cond b (Refused 12)
         (cond (offGrid (placeIn e)) (Refused 13) (cond (isSplice (e .kind)) (Splice i) (located i (Q chart (e .method) (placeIn e))))))
     go true h = tt
-    go false h = second (offGrid (placeIn e)) (below s (e .section) (or-false (notBelow s (e .section)) _ h .0))
+    go false h = let l : i < _ = below _ (e .section) (or-false _ _ h .0) in second (offGrid (placeIn e)) (omega (arith, l))
