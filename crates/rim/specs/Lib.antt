@@ -1,3 +1,4 @@
 pub mod TriangleA
 pub mod Checked
 pub mod Loads
+pub mod Ropes

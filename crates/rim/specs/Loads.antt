@@ -28,6 +28,8 @@ use Rattle.estivolh.specs.Weights.{Weighted, barycentricOn, barycentricOf}
 use Rattle.estivolh.specs.Weights.Shares.{shares}
 use Rattle.estivolh.specs.Natural.{edgesLeft, edgesOn, naturalEdgesOf}
 use Rattle.estivolh.specs.Natural.Tally.{listed}
+use Rattle.estivolh.specs.Account.{costOf}
+use Rattle.estivolh.specs.Account.{Cost as C}
 use Rattle.rim.specs.TriangleA.{fileA, verticesA, edgesA, facesA}
 
 -- a vertex with its weight, by the weight's bits
@@ -50,6 +52,10 @@ pub record Rows : Type 0 where
   pub beyond : locateOf fileA (pos 6) (pos 5) ≡ at (OutsideOfConvexHull 3)
   pub on-circle : inCircle chartA (place (pos 10) (pos 10)) 1 ≡ false
   pub in-circle : inCircle chartA (place (pos 9) (pos 9)) 1 ≡ true
+  -- the charge of 149.5, of -0.5 and of 1,000,000.5
+  pub half-up : costOf (ofBits binary64 0x4062_b000_0000_0000) ≡ C.whole 150
+  pub lowest : costOf (ofBits binary64 0xbfe0_0000_0000_0000) ≡ C.whole 0
+  pub too-high : costOf (ofBits binary64 0x412e_8481_0000_0000) ≡ C.turnedDown 16
   -- a point on the line beyond an edge is not on it
   pub past-the-end : locateOf fileA (pos 15) (pos 0) ≡ at (OutsideOfConvexHull 3)
   -- corners are not read from the adjacent edge: prev comes first
@@ -74,6 +80,9 @@ rows =
       beyond = refl;
       on-circle = refl;
       in-circle = refl;
+      half-up = refl;
+      lowest = refl;
+      too-high = refl;
       past-the-end = refl;
       corners = refl;
       hull-pair = refl;
