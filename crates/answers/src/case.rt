@@ -4,19 +4,54 @@ ghost use lib.ListN.{length};
 use crate::print;
 use crate::queries;
 use crate::queries::Query;
+use crate::rooms;
+use estivolh::EstimatedGradient;
 
 // So many bytes fill the buffer of a queries text: it was cut there, or may have been.
 const CUT: usize = 65536;
 
-// A refused chart has its verdict alone.
-pub fn answers(chart: &[u8], text: &[u8]) {
+// One more than the vertices of the largest chart.
+const VERTICES: u64 = 129;
+
+// A refused chart has its verdict and its rooms alone.
+pub fn answers(chart: &[u8], text: &[u8], lengths: &[u8]) {
     let number = estivolh::check(chart);
     print::verdict(number);
+    if !rooms::all_rooms(chart, lengths) {
+        print::broken_rooms();
+        return;
+    }
     if number != 0 {
         return;
     }
+    gradients(chart);
     if !all_queries(chart, text) {
         print::broken_queries();
+    }
+}
+
+// The gradients of the vertices, up to the first number that is none's.
+fn gradients(chart: &[u8]) {
+    let mut v = 0;
+    while v < VERTICES && gradient(chart, v) {
+        v += 1;
+    }
+}
+
+// The gradient at a vertex. Whether there is one: 12 is no line, and any other refusal is one that the oracle never prints.
+fn gradient(chart: &[u8], vertex: u64) -> bool {
+    let found = estivolh::estimate_gradient(chart, vertex);
+    match found {
+        EstimatedGradient::Components(x, y) => {
+            print::gradient(vertex, x, y);
+            true
+        }
+        EstimatedGradient::Refused(n) => {
+            if n != 12 {
+                print::refused_gradient(vertex, n);
+            }
+            false
+        }
     }
 }
 
@@ -59,4 +94,23 @@ fn answer(chart: &[u8], x: i64, y: i64) {
     print::query(x, y);
     print::location(estivolh::locate(chart, x, y));
     print::barycentric(estivolh::barycentric_weights(chart, x, y));
+    edges(chart, x, y);
+    natural_weights(chart, x, y);
+    print::value(1, estivolh::interpolate(chart, 1, x, y));
+    print::value(2, estivolh::interpolate(chart, 2, x, y));
+    print::value(3, estivolh::interpolate(chart, 3, x, y));
+}
+
+// As long a list as any chart has.
+fn edges(chart: &[u8], x: i64, y: i64) {
+    let mut list = [0u64; 756];
+    let found = estivolh::natural_neighbor_edges(chart, x, y, &mut list);
+    print::edges(found, &list);
+}
+
+fn natural_weights(chart: &[u8], x: i64, y: i64) {
+    let mut owners = [0u64; 756];
+    let mut shares = [0.0; 756];
+    let found = estivolh::natural_neighbor_weights(chart, x, y, &mut owners, &mut shares);
+    print::natural_weights(found, &owners, &shares);
 }

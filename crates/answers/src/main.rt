@@ -6,13 +6,15 @@ mod folder;
 mod packed;
 mod print;
 mod queries;
+mod rooms;
 
 fn main() {
     let mut chart_space = io::large_buffer();
     let mut query_space = io::large_buffer();
+    let mut room_space = io::buffer();
     if os::arg_count() < 2 {
-        packed::cases(&mut chart_space, &mut query_space);
+        packed::cases(&mut chart_space, &mut query_space, &mut room_space);
     } else {
-        folder::cases(&mut chart_space, &mut query_space);
+        folder::cases(&mut chart_space, &mut query_space, &mut room_space);
     }
 }

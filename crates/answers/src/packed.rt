@@ -16,15 +16,15 @@ enum Header {
 }
 
 // A proved loop has to end, and nothing says that the input does. So this one counts its turns down, from a number that no run uses up.
-pub fn cases(chart_space: &mut [u8], query_space: &mut [u8]) {
+pub fn cases(chart_space: &mut [u8], query_space: &mut [u8], room_space: &mut [u8]) {
     let mut turns = u64::MAX;
-    while turns > 0 && next_case(chart_space, query_space) {
+    while turns > 0 && next_case(chart_space, query_space, room_space) {
         turns -= 1;
     }
 }
 
 // Answers the next case. Whether to go on.
-fn next_case(chart_space: &mut [u8], query_space: &mut [u8]) -> bool {
+fn next_case(chart_space: &mut [u8], query_space: &mut [u8], room_space: &mut [u8]) -> bool {
     let mut line = [0u8; 25];
     let n = io::read_full(STDIN_FILENO, &mut line);
     if n == 0 {
@@ -33,7 +33,7 @@ fn next_case(chart_space: &mut [u8], query_space: &mut [u8]) -> bool {
     let header = read_header(&line[..n]);
     match header {
         Header::Sizes(chart, queries, rooms) => {
-            if answer(chart_space, query_space, chart, queries, rooms) {
+            if answer(chart_space, query_space, room_space, chart, queries, rooms) {
                 return true;
             }
             print::broken_case();
@@ -90,6 +90,7 @@ fn sizes(chart: usize, queries: usize, rooms: usize) -> Header
 fn answer(
     chart_space: &mut [u8],
     query_space: &mut [u8],
+    room_space: &mut [u8],
     chart: usize,
     queries: usize,
     rooms: usize,
@@ -100,13 +101,13 @@ fn answer(
     if !read_text(query_space, queries) {
         return false;
     }
-    // no call needs the rooms yet
-    if !skip_text(rooms) {
+    if !read_text(room_space, rooms) {
         return false;
     }
     let c = least(chart, chart_space.len());
     let q = least(queries, query_space.len());
-    case::answers(&chart_space[..c], &query_space[..q]);
+    let r = least(rooms, room_space.len());
+    case::answers(&chart_space[..c], &query_space[..q], &room_space[..r]);
     true
 }
 
@@ -145,7 +146,7 @@ fn skip_some(space: &mut [u8], left: usize) -> usize
     io::read_full(STDIN_FILENO, &mut space[..n])
 }
 
-fn least(a: usize, b: usize) -> usize
+pub fn least(a: usize, b: usize) -> usize
     ensures { λ r. ⌜ r ≡ min a b ⌝ }
 {
     if a < b { a } else { b }

@@ -1,12 +1,48 @@
 // The lines of the answers: a function for each kind.
 ghost use mathlib.Core.Path.{_≡_};
 ghost use lib.IntN.{natAbs};
+use charge::Charged;
+use estivolh::InterpolatedValue;
+use estivolh::NaturalNeighbors;
 use estivolh::PositionInTriangulation;
 use libc::STDOUT_FILENO;
 use weights::BarycentricWeights;
 
 pub fn verdict(number: u64) {
     ending(b"verdict ", number);
+}
+
+// The refusals by a short list of edges, of vertices and of weights: the oracle has one number, and so has the line where they are alike.
+pub fn room(length: u64, edges: u64, owners: u64, weights: u64) {
+    word(b"room ");
+    natural(length);
+    word(b" ");
+    natural(edges);
+    if edges == owners {
+        if owners == weights {
+            word(b"\n");
+            return;
+        }
+    }
+    word(b" ");
+    natural(owners);
+    ending(b" ", weights);
+}
+
+pub fn gradient(vertex: u64, x: f64, y: f64) {
+    word(b"gradient ");
+    natural(vertex);
+    word(b" ");
+    bits(x);
+    word(b" ");
+    bits(y);
+    word(b"\n");
+}
+
+pub fn refused_gradient(vertex: u64, number: u64) {
+    word(b"gradient ");
+    natural(vertex);
+    ending(b" refused ", number);
 }
 
 pub fn query(x: i64, y: i64) {
@@ -53,6 +89,53 @@ pub fn barycentric(weights: BarycentricWeights) {
     }
 }
 
+pub fn edges(found: NaturalNeighbors, list: &[u64]) {
+    word(b"edges ");
+    match found {
+        NaturalNeighbors::Listed(count, opened) => {
+            natural(opened);
+            word(b" ");
+            natural(count);
+            numbers(list, count as usize);
+            word(b"\n");
+        }
+        NaturalNeighbors::Refused(n) => ending(b"refused ", n),
+    }
+}
+
+pub fn natural_weights(found: NaturalNeighbors, owners: &[u64], shares: &[f64]) {
+    word(b"natural ");
+    match found {
+        NaturalNeighbors::Listed(count, _) => {
+            natural(count);
+            pairs(owners, shares, count as usize);
+            word(b"\n");
+        }
+        NaturalNeighbors::Refused(n) => ending(b"refused ", n),
+    }
+}
+
+pub fn value(method: i64, value: InterpolatedValue) {
+    word(b"value ");
+    signed(method);
+    match value {
+        InterpolatedValue::Value(x) => {
+            word(b" ");
+            bits(x);
+            word(b" charge ");
+            charged(charge::charge(x));
+        }
+        InterpolatedValue::Refused(n) => ending(b" refused ", n),
+    }
+}
+
+fn charged(charge: Charged) {
+    match charge {
+        Charged::Whole(n) => ending(b"", n),
+        Charged::Refused(n) => ending(b"refused ", n),
+    }
+}
+
 // What takes the place of answers where the packed input cannot be followed any further.
 pub fn broken_header() {
     word(b"broken header\n");
@@ -65,6 +148,11 @@ pub fn broken_case() {
 // What takes the place of the answers to a query that is malformed, and to those after it.
 pub fn broken_queries() {
     word(b"broken queries\n");
+}
+
+// What takes the place of the answers after a room that is malformed.
+pub fn broken_rooms() {
+    word(b"broken rooms\n");
 }
 
 fn word(text: &[u8]) {
@@ -90,6 +178,28 @@ fn weight(vertex: u64, value: f64) {
     bits(value);
 }
 
+// The first `count` numbers of a list, or all of them where it has fewer, within a line.
+fn numbers(list: &[u64], count: usize) {
+    let mut i = 0;
+    while i < list.len() && i < count {
+        word(b" ");
+        natural(list[i]);
+        i += 1;
+    }
+}
+
+// The first `count` vertices with their weights, or as many as there are.
+fn pairs(owners: &[u64], shares: &[f64], count: usize) {
+    let mut i = 0;
+    while i < owners.len() && i < count {
+        if shares.len() <= i {
+            return;
+        }
+        weight(owners[i], shares[i]);
+        i += 1;
+    }
+}
+
 // A float as its 64 bits. A not-a-number has no bits of its own.
 fn bits(x: f64) {
     if x == x {
@@ -106,7 +216,7 @@ fn signed(z: i64) {
     natural(magnitude(z));
 }
 
-fn magnitude(z: i64) -> u64
+pub fn magnitude(z: i64) -> u64
     ensures { λ r. ⌜ r ≡ natAbs z ⌝ }
 {
     if z < 0 {

@@ -26,14 +26,17 @@ same-length-3 c = search needs
 returns-2 : tie.Need-returns-2
 returns-2 c = search needs
 
-skip-text-requires : tie.Need-skip-text-requires
-skip-text-requires c κs = search needs
+read-text-requires-3 : tie.Need-read-text-requires-3
+read-text-requires-3 c κs = search needs
 
 same-length-4 : tie.Need-same-length-4
 same-length-4 c = search needs
 
 same-length-5 : tie.Need-same-length-5
 same-length-5 c = search needs
+
+same-length-6 : tie.Need-same-length-6
+same-length-6 c = search needs
 
 returns-3 : tie.Need-returns-3
 returns-3 c = search needs
@@ -43,6 +46,9 @@ least-requires c κs = search needs
 
 least-requires-2 : tie.Need-least-requires-2
 least-requires-2 c κs = search needs
+
+least-requires-3 : tie.Need-least-requires-3
+least-requires-3 c κs = search needs
 
 slice-reshare-prefix-answers : tie.Need-slice-reshare-prefix-answers
 slice-reshare-prefix-answers c = search needs
@@ -56,14 +62,23 @@ slice-reshare-prefix-answers-2 c = search needs
 slice-aggregate-answers-2 : tie.Need-slice-aggregate-answers-2
 slice-aggregate-answers-2 c = simp length-take (omega arith)
 
+slice-reshare-prefix-answers-3 : tie.Need-slice-reshare-prefix-answers-3
+slice-reshare-prefix-answers-3 c = search needs
+
+slice-aggregate-answers-3 : tie.Need-slice-aggregate-answers-3
+slice-aggregate-answers-3 c = simp length-take (omega arith)
+
 answers-requires : tie.Need-answers-requires
 answers-requires c κs = search needs
 
-same-length-6 : tie.Need-same-length-6
-same-length-6 c = search needs
-
 same-length-7 : tie.Need-same-length-7
 same-length-7 c = search needs
+
+same-length-8 : tie.Need-same-length-8
+same-length-8 c = search needs
+
+same-length-9 : tie.Need-same-length-9
+same-length-9 c = search needs
 
 returns-4 : tie.Need-returns-4
 returns-4 c = search needs
@@ -79,17 +94,22 @@ answer-spec =
     same-length-2
     same-length-3
     returns-2
-    skip-text-requires
+    read-text-requires-3
     same-length-4
     same-length-5
+    same-length-6
     returns-3
     least-requires
     least-requires-2
+    least-requires-3
     slice-reshare-prefix-answers
     slice-aggregate-answers
     slice-reshare-prefix-answers-2
     slice-aggregate-answers-2
+    slice-reshare-prefix-answers-3
+    slice-aggregate-answers-3
     answers-requires
-    same-length-6
     same-length-7
+    same-length-8
+    same-length-9
     returns-4)

@@ -6,13 +6,13 @@ use Rattle.answers.proofs.packed.cases.Statement.{statement}
 use Rattle.answers.proofs.packed.cases.Tie as tie
 
 abbrev Inv-loop : tie.InvT-loop
-Inv-loop charts₀ queries₀ turns₀ charts queries turns = (length charts ≡ length charts₀) × (length queries ≡ length queries₀)
+Inv-loop charts₀ queries₀ rooms₀ turns₀ charts queries rooms turns = (length charts ≡ length charts₀) × (length queries ≡ length queries₀) × (length rooms ≡ length rooms₀)
 
 abbrev μ-loop : tie.MeasureT-loop
-μ-loop charts₀ queries₀ turns₀ charts queries turns = turns
+μ-loop charts₀ queries₀ rooms₀ turns₀ charts queries rooms turns = turns
 
 loop-holds : tie.Need-loop-holds Inv-loop μ-loop
-loop-holds c = (refl, refl)
+loop-holds c = (refl, refl, refl)
 
 next-case-requires : tie.Need-next-case-requires Inv-loop μ-loop
 next-case-requires c κs = tt
@@ -32,14 +32,20 @@ same-length c = search needs
 same-length-2 : tie.Need-same-length-2 Inv-loop μ-loop
 same-length-2 c = search needs
 
-returns : tie.Need-returns Inv-loop μ-loop
-returns c = tt
-
 same-length-3 : tie.Need-same-length-3 Inv-loop μ-loop
 same-length-3 c = search needs
 
+returns : tie.Need-returns Inv-loop μ-loop
+returns c = tt
+
 same-length-4 : tie.Need-same-length-4 Inv-loop μ-loop
 same-length-4 c = search needs
+
+same-length-5 : tie.Need-same-length-5 Inv-loop μ-loop
+same-length-5 c = search needs
+
+same-length-6 : tie.Need-same-length-6 Inv-loop μ-loop
+same-length-6 c = search needs
 
 returns-2 : tie.Need-returns-2 Inv-loop μ-loop
 returns-2 c = tt
@@ -57,7 +63,9 @@ cases-spec =
     loop-again
     same-length
     same-length-2
-    returns
     same-length-3
+    returns
     same-length-4
+    same-length-5
+    same-length-6
     returns-2)
