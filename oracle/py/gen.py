@@ -528,7 +528,7 @@ def fixed(rnd, write):
         n = refusal(c.text())
         write(p, 'chart.txt', c.text())
         write(p, 'expect.txt', '%d %s\n' % (n, note))
-        write(p, 'rooms.txt', '%d %d\n' % (len(c.h) - 1, len(c.h)))
+        write(p, 'rooms.txt', '%d\n%d\n' % (len(c.h) - 1, len(c.h)))
         if n == 0:
             q = queries(rnd, c)
             write(p, 'queries.txt', ''.join('%d %d\n' % x for x in q))
@@ -585,7 +585,7 @@ def systematic(write):
     def put(b, note):
         nonlocal n
         write('g%04d' % n, 'chart.txt', b)
-        write('g%04d' % n, 'rooms.txt', '5 6\n')
+        write('g%04d' % n, 'rooms.txt', '5\n6\n')
         write('g%04d' % n, 'expect.txt', '%d %s\n' % (refusal(b), note))
         n += 1
 
@@ -619,7 +619,7 @@ def any_bytes(write):
     def put(b, note):
         nonlocal n
         write('x%02d' % n, 'chart.txt', b)
-        write('x%02d' % n, 'rooms.txt', '0 6 756\n')
+        write('x%02d' % n, 'rooms.txt', '0\n6\n756\n')
         write('x%02d' % n, 'expect.txt', '%d %s\n' % (refusal(b), note))
         n += 1
 
@@ -735,7 +735,7 @@ def main():
         write(p, 'queries.txt', ''.join('%d %d\n' % x for x in q))
         write(p, 'log.txt', log_text(rnd, entries(rnd, q, rnd.randint(0, 30), 2)))
         write(p, 'batch.txt', batch_text(rnd, q))
-        write(p, 'rooms.txt', '%d %d %d\n' % (len(c.h) - 1, len(c.h), 756))
+        write(p, 'rooms.txt', '%d\n%d\n%d\n' % (len(c.h) - 1, len(c.h), 756))
     for i in range(nd):
         kind, c = accepted(rnd, min(maxv, rnd.choice([3, 5, 12, 30, 128])))
         kind, b = damaged(rnd, c)
@@ -745,7 +745,7 @@ def main():
         p = 'd%05d' % i
         write(p, 'chart.txt', b)
         write(p, 'expect.txt', '%d %s\n' % (n, kind))
-        write(p, 'rooms.txt', '0 5 %d 756\n' % len(c.h))
+        write(p, 'rooms.txt', '0\n5\n%d\n756\n' % len(c.h))
         q = queries(rnd, c, 8)
         write(p, 'log.txt', log_text(rnd, entries(rnd, q, rnd.randint(0, 3), 2)))
         write(p, 'batch.txt', batch_text(rnd, q))

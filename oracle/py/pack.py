@@ -6,6 +6,8 @@
                                       NAME: patterns such as 'd*', all folders where there is none.
                                       The queries and the rooms have length 0 unless the options ask for them
     pack.py limit DIR N               cuts each queries.txt of DIR to its first N queries (gen.py shuffles them), before the oracle answers
+    pack.py parts DIR N               the names of DIR's case folders, in lines: answering those of a line takes as long as about N calls on
+                                      the largest chart, or is one case
     pack.py unpack FILE DIR           the cases of a packed file as case folders 00000, 00001, .. of DIR
     pack.py where OUT BYTE            the case to which a byte of OUT/stdout belongs
     pack.py feed FILE PROGRAM..       runs a program with FILE as its standard input, in pieces of 1 to 99 bytes
@@ -19,6 +21,11 @@ sys.dont_write_bytecode = True  # nothing is left in the source tree
 from second import fields
 
 TEXTS = ('chart.txt', 'queries.txt', 'rooms.txt')
+LARGEST = 31465  # bytes of the largest chart
+
+
+def names(d):
+    return [name for name in sorted(os.listdir(d)) if os.path.isdir(os.path.join(d, name))]
 
 
 def read(*path):
@@ -35,9 +42,9 @@ def verdict(answers):
 
 
 def pack(d, out, patterns, texts):
-    stdin, stdout, names, count = b'', b'', '', collections.Counter()
-    for name in sorted(os.listdir(d)):
-        if not os.path.isdir(os.path.join(d, name)) or not any(fnmatch.fnmatch(name, p) for p in patterns or ['*']): continue
+    stdin, stdout, packed, count = b'', b'', '', collections.Counter()
+    for name in names(d):
+        if not any(fnmatch.fnmatch(name, p) for p in patterns or ['*']): continue
         parts = [read(d, name, t) if t in texts else b'' for t in TEXTS]
         answers = read(d, name, 'answers.txt')
         # expect.txt is by the second implementation: the two must agree before they judge a third
@@ -45,12 +52,12 @@ def pack(d, out, patterns, texts):
         if expect and expect[0] != verdict(answers): sys.exit('%s: the oracle says %s and gen.py %s' % (name, verdict(answers), expect[0]))
         stdin += b'%8d%8d%8d\n' % tuple(map(len, parts)) + b''.join(parts)
         stdout += answers
-        names += name + '\n'
+        packed += name + '\n'
         count[int(verdict(answers))] += 1
     os.makedirs(out, exist_ok=True)
     write(stdin, out, 'stdin')
     write(stdout, out, 'stdout')
-    write(names.encode(), out, 'names')
+    write(packed.encode(), out, 'names')
     print('%d cases, %d bytes; verdicts: %s' % (sum(count.values()), len(stdin), ', '.join('%d: %d' % p for p in sorted(count.items()))))
 
 
@@ -58,6 +65,19 @@ def limit(d, n):
     for name in os.listdir(d):
         lines = read(d, name, 'queries.txt').splitlines(True)
         if len(lines) > n: write(b''.join(lines[:n]), d, name, 'queries.txt')
+
+
+def parts(d, n):
+    line, cost = [], 0.0
+    for name in names(d):
+        # each line is by a call or so, and each call checks its chart, in a time that grows with the square of its length
+        c = read(d, name, 'answers.txt').count(b'\n') * (len(read(d, name, 'chart.txt')) / LARGEST) ** 2
+        if line and cost + c > n:
+            print(*line)
+            line, cost = [], 0.0
+        line.append(name)
+        cost += c
+    print(*line)
 
 
 def unpack(path, d):
@@ -99,6 +119,7 @@ if __name__ == '__main__':
     if a[:1] == ['pack'] and len(a) > 2:
         pack(a[1], a[2], a[3:], [t for t in TEXTS if t == TEXTS[0] or '--' + t[:-4] in sys.argv])
     elif a[:1] == ['limit'] and len(a) == 3: limit(a[1], int(a[2]))
+    elif a[:1] == ['parts'] and len(a) == 3: parts(a[1], int(a[2]))
     elif a[:1] == ['unpack'] and len(a) == 3: unpack(a[1], a[2])
     elif a[:1] == ['where'] and len(a) == 3: where(a[1], int(a[2]))
     elif a[:1] == ['feed'] and len(a) > 2: sys.exit(feed(a[1], a[2:]))
