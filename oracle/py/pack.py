@@ -70,8 +70,9 @@ def limit(d, n):
 def parts(d, n):
     line, cost = [], 0.0
     for name in names(d):
-        # each line is by a call or so, and each call checks its chart, in a time that grows with the square of its length
-        c = read(d, name, 'answers.txt').count(b'\n') * (len(read(d, name, 'chart.txt')) / LARGEST) ** 2
+        # a line is by one call, or three for a room; and each call checks its chart, in a time that grows with the square of its length
+        answers = read(d, name, 'answers.txt')
+        c = (answers.count(b'\n') + 2 * answers.count(b'\nroom ')) * (len(read(d, name, 'chart.txt')) / LARGEST) ** 2
         if line and cost + c > n:
             print(*line)
             line, cost = [], 0.0

@@ -24,6 +24,8 @@ use Rattle.answers.specs.Decimal.{mostDigits, noMagnitude, digitsMake, m
 use Rattle.answers.specs.Header.{limit, sizeOf, headerLine, headerOf}
 use Rattle.answers.specs.Path.{pathOf}
 use Rattle.answers.specs.Query.{untilOf, pairOf, queryOf}
+use Rattle.answers.specs.declared.rooms.Room.the-variants.{Length, NoRoom}
+use Rattle.answers.specs.Room.{lengthOf, roomIn, roomOf}
 
 pub size-neg : (z : ℤ) → ltZ z (pos 0) ≡ true → sizeOf z ≡ limit
 size-neg (pos n) e = let f : ⊥ = omega (arith, ltb-true n 0 e) in absurd f
@@ -36,6 +38,18 @@ size-pos (negsuc n) e = let z : _≡_ {A = ℕ} 0 1 = cc in omega arith
 pub size-nonneg : (z : ℤ) → ltZ z (pos 0) ≡ false → T (nonNeg z)
 size-nonneg (pos n) e = tt
 size-nonneg (negsuc n) e = let z : _≡_ {A = ℕ} 0 1 = cc in let f : ⊥ = omega arith in absurd f
+
+pub length-neg : (z : ℤ) → ltZ z (pos 0) ≡ true → lengthOf z ≡ NoRoom
+length-neg (pos n) e = let f : ⊥ = omega (arith, ltb-true n 0 e) in absurd f
+length-neg (negsuc n) e = refl
+
+pub length-pos : (z : ℤ) → ltZ z (pos 0) ≡ false → Length (natAbs z) ≡ lengthOf z
+length-pos (pos n) e = refl
+length-pos (negsuc n) e = let z : _≡_ {A = ℕ} 0 1 = cc in let f : ⊥ = omega arith in absurd f
+
+pub room-of : (s : List ℕ) → roomOf s ≡ roomIn (decimalOf s)
+unfolding roomOf
+room-of s = refl
 
 pub header-length : (s : List ℕ) → (length s ≡ 25 → ⊥) → headerOf s ≡ Broken
 unfolding headerOf

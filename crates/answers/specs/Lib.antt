@@ -2,3 +2,4 @@ pub mod Decimal
 pub mod Header
 pub mod Path
 pub mod Query
+pub mod Room

@@ -1,6 +1,8 @@
 // The lines of a rooms text: the length of an answer slice, with its line end.
+ghost use mathlib.Core.Path.{_≡_};
 ghost use Prim.Native.Nat.{_≤_};
 ghost use lib.ListN.{length};
+ghost use Rattle.answers.specs.Room.{lengthOf, roomOf, beforeLoad, refusalIn};
 use crate::decimal;
 use crate::packed;
 use crate::print;
@@ -13,6 +15,11 @@ const CUT: usize = 4096;
 
 // A load off the grid: it is refused (13) where neither the chart nor the room is.
 const OFF: i64 = 9223372036854775807;
+
+enum Room {
+    Length(u64),
+    NoRoom,
+}
 
 // Answers the rooms, up to the first line that is none. Whether all were answered.
 pub fn all_rooms(chart: &[u8], text: &[u8]) -> bool {
@@ -38,22 +45,39 @@ fn first_room(chart: &[u8], text: &[u8]) -> usize
     if n == text.len() {
         return 0;
     }
-    let number = decimal::decimal(&text[..n]);
-    match number {
-        Field::Number(z) => {
-            if z < 0 {
-                return 0;
-            }
-            room(chart, print::magnitude(z));
+    let line = read_room(&text[..n]);
+    match line {
+        Room::Length(length) => {
+            answer(chart, length);
             n + 1
         }
-        Field::Malformed => 0,
+        Room::NoRoom => 0,
     }
 }
 
-// Each of the three answer slices in turn is the short one. The others, and a room that is longer, have 756 elements: a chart that is not
+// What a line without its end says.
+fn read_room(s: &[u8]) -> Room
+    ensures { λ r. ⌜ r ≡ roomOf (now (s .entry)) ⌝ }
+{
+    let number = decimal::decimal(s);
+    match number {
+        Field::Number(z) => from_zero(z),
+        Field::Malformed => Room::NoRoom,
+    }
+}
+
+fn from_zero(z: i64) -> Room
+    ensures { λ r. ⌜ r ≡ lengthOf z ⌝ }
+{
+    if z < 0 {
+        return Room::NoRoom;
+    }
+    Room::Length(z as u64)
+}
+
+// The line of one room. Each of the three answer slices in turn is the short one. The others, and a room that is longer, have 756 elements: a chart that is not
 // refused before its room has no more half-edges, so that longer slices are answered alike.
-fn room(chart: &[u8], length: u64) {
+fn answer(chart: &[u8], length: u64) {
     let mut list = [0u64; 756];
     let mut shares = [0.0; 756];
     let edges = edges_refusal(chart, &mut list, length);
@@ -73,14 +97,18 @@ fn weights_refusal(chart: &[u8], owners: &mut [u64], m: u64, shares: &mut [f64],
     refusal(estivolh::natural_neighbor_weights(chart, OFF, OFF, &mut owners[..a], &mut shares[..b]))
 }
 
-// The refusal before 13; 0 where there is none.
-fn refusal(found: NaturalNeighbors) -> u64 {
+// The refusal of the chart or of the room; 0 where there is none. A load off the grid is never listed: 13 stands for that, which no room has.
+fn refusal(found: NaturalNeighbors) -> u64
+    ensures { λ r. ⌜ r ≡ refusalIn found ⌝ }
+{
     match found {
         NaturalNeighbors::Listed(_, _) => 13,
         NaturalNeighbors::Refused(n) => before_load(n),
     }
 }
 
-fn before_load(n: u64) -> u64 {
+fn before_load(n: u64) -> u64
+    ensures { λ r. ⌜ r ≡ beforeLoad n ⌝ }
+{
     if n == 13 { 0 } else { n }
 }

@@ -11,23 +11,17 @@ before-first-requires c κs = search needs
 returns : tie.Need-returns
 returns c = search needs
 
-slice-aggregate-decimal : tie.Need-slice-aggregate-decimal
-slice-aggregate-decimal c = simp length-take (omega arith)
+slice-aggregate-read-room : tie.Need-slice-aggregate-read-room
+slice-aggregate-read-room c = simp length-take (omega arith)
 
-decimal-requires : tie.Need-decimal-requires
-decimal-requires c κs = search needs
+read-room-requires : tie.Need-read-room-requires
+read-room-requires c κs = search needs
 
-enum-known-number : tie.Need-enum-known-number
-enum-known-number c = search needs
+enum-known-line : tie.Need-enum-known-line
+enum-known-line c = search needs
 
-returns-2 : tie.Need-returns-2
-returns-2 c = search needs
-
-magnitude-requires : tie.Need-magnitude-requires
-magnitude-requires c κs = search needs
-
-room-requires : tie.Need-room-requires
-room-requires c κs = search needs
+answer-requires : tie.Need-answer-requires
+answer-requires c κs = search needs
 
 add-result : tie.Need-add-result
 add-result c = search needs
@@ -35,11 +29,11 @@ add-result c = search needs
 enum-told : tie.Need-enum-told
 enum-told c = search needs
 
+returns-2 : tie.Need-returns-2
+returns-2 c = search needs
+
 returns-3 : tie.Need-returns-3
 returns-3 c = search needs
-
-returns-4 : tie.Need-returns-4
-returns-4 c = search needs
 
 pub first-room-spec : {M : Type 1} → statement M
 first-room-spec =
@@ -47,13 +41,11 @@ first-room-spec =
     (tie.spec
     before-first-requires
     returns
-    slice-aggregate-decimal
-    decimal-requires
-    enum-known-number
-    returns-2
-    magnitude-requires
-    room-requires
+    slice-aggregate-read-room
+    read-room-requires
+    enum-known-line
+    answer-requires
     add-result
     enum-told
-    returns-3
-    returns-4)
+    returns-2
+    returns-3)
