@@ -5,7 +5,8 @@
                                       answers.txt (by `oracle suite --only KINDS DIR`) to OUT/stdout; OUT/names has a name for each case.
                                       NAME: patterns such as 'd*', all folders where there is none.
                                       The queries and the rooms have length 0 unless the options ask for them
-    pack.py limit DIR N               cuts each queries.txt of DIR to its first N queries (gen.py shuffles them), before the oracle answers
+    pack.py limit DIR N [M]           cuts each queries.txt of DIR to its first N queries (gen.py shuffles them), before the oracle answers; to
+                                      M where the chart has some 40 vertices or more
     pack.py parts DIR N               the names of DIR's case folders, in lines: answering those of a line takes as long as about N calls on
                                       the largest chart, or is one case
     pack.py unpack FILE DIR           the cases of a packed file as case folders 00000, 00001, .. of DIR
@@ -61,10 +62,11 @@ def pack(d, out, patterns, texts):
     print('%d cases, %d bytes; verdicts: %s' % (sum(count.values()), len(stdin), ', '.join('%d: %d' % p for p in sorted(count.items()))))
 
 
-def limit(d, n):
+def limit(d, n, m):
     for name in os.listdir(d):
         lines = read(d, name, 'queries.txt').splitlines(True)
-        if len(lines) > n: write(b''.join(lines[:n]), d, name, 'queries.txt')
+        kept = n if len(read(d, name, 'chart.txt')) < 10000 else m
+        if len(lines) > kept: write(b''.join(lines[:kept]), d, name, 'queries.txt')
 
 
 def parts(d, n):
@@ -119,7 +121,7 @@ if __name__ == '__main__':
     a = [w for w in sys.argv[1:] if w not in ('--queries', '--rooms')]
     if a[:1] == ['pack'] and len(a) > 2:
         pack(a[1], a[2], a[3:], [t for t in TEXTS if t == TEXTS[0] or '--' + t[:-4] in sys.argv])
-    elif a[:1] == ['limit'] and len(a) == 3: limit(a[1], int(a[2]))
+    elif a[:1] == ['limit'] and len(a) in (3, 4): limit(a[1], int(a[2]), int(a[-1]))
     elif a[:1] == ['parts'] and len(a) == 3: parts(a[1], int(a[2]))
     elif a[:1] == ['unpack'] and len(a) == 3: unpack(a[1], a[2])
     elif a[:1] == ['where'] and len(a) == 3: where(a[1], int(a[2]))

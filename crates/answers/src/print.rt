@@ -129,8 +129,8 @@ pub fn value(method: i64, value: InterpolatedValue) {
     }
 }
 
-fn charged(charge: Charged) {
-    match charge {
+fn charged(cost: Charged) {
+    match cost {
         Charged::Whole(n) => ending(b"", n),
         Charged::Refused(n) => ending(b"refused ", n),
     }
@@ -216,7 +216,7 @@ fn signed(z: i64) {
     natural(magnitude(z));
 }
 
-pub fn magnitude(z: i64) -> u64
+fn magnitude(z: i64) -> u64
     ensures { λ r. ⌜ r ≡ natAbs z ⌝ }
 {
     if z < 0 {

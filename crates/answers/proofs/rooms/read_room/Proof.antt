@@ -1,5 +1,5 @@
 -- `rooms::read_room` meets its contract. A number bound by a pattern is bits here, and `toZ-ofZ` clears them.
-use mathlib.Core.Path.{_≡_, _∙_, ap, sym}
+use mathlib.Core.Path.{_∙_, ap, sym}
 use mir.Facts.{toZ-ofZ}
 use mir.Syntax.{w64}
 use Rattle.answers.specs.Room.{lengthOf, roomIn}
