@@ -5,8 +5,8 @@
                                       answers.txt (by `oracle suite --only KINDS DIR`) to OUT/stdout; OUT/names has a name for each case.
                                       NAME: patterns such as 'd*', all folders where there is none.
                                       The queries and the rooms have length 0 unless the options ask for them
-    pack.py limit DIR N [M]           cuts each queries.txt of DIR to its first N queries (gen.py shuffles them), before the oracle answers; to
-                                      M where the chart has some 40 vertices or more
+    pack.py limit DIR N [M]           cuts each queries.txt of DIR to its first N queries (gen.py shuffles them), before the oracle answers;
+                                      to M where the chart has some 40 vertices or more
     pack.py parts DIR N               the names of DIR's case folders, in lines: answering those of a line takes as long as about N calls on
                                       the largest chart, or is one case
     pack.py unpack FILE DIR           the cases of a packed file as case folders 00000, 00001, .. of DIR

@@ -75,8 +75,8 @@ fn from_zero(z: i64) -> Room
     Room::Length(z as u64)
 }
 
-// The line of one room. Each of the three answer slices in turn is the short one. The others, and a room that is longer, have 756 elements: a chart that is not
-// refused before its room has no more half-edges, so that longer slices are answered alike.
+// The line of one room. Each of the three answer slices in turn is the short one; none is lent with more than 756 elements: a chart that
+// is not refused before its room has no more half-edges, so that a longer slice is answered alike.
 fn answer(chart: &[u8], length: u64) {
     let mut list = [0u64; 756];
     let mut shares = [0.0; 756];
@@ -97,7 +97,8 @@ fn weights_refusal(chart: &[u8], owners: &mut [u64], m: u64, shares: &mut [f64],
     refusal(estivolh::natural_neighbor_weights(chart, OFF, OFF, &mut owners[..a], &mut shares[..b]))
 }
 
-// The refusal of the chart or of the room; 0 where there is none. A load off the grid is never listed: 13 stands for that, which no room has.
+// The refusal of the chart or of the room; 0 where there is none. A load off the grid is never listed: 13, which no room has, would
+// show it.
 fn refusal(found: NaturalNeighbors) -> u64
     ensures { λ r. ⌜ r ≡ refusalIn found ⌝ }
 {
