@@ -2,10 +2,10 @@
 ghost use mathlib.Core.Path.{_≡_};
 ghost use lib.IntN.{natAbs};
 use charge::Charged;
-use estivolh::InterpolatedValue;
 use estivolh::NaturalNeighbors;
 use estivolh::PositionInTriangulation;
 use libc::STDOUT_FILENO;
+use values::InterpolatedValue;
 use weights::BarycentricWeights;
 
 pub fn verdict(number: u64) {
@@ -123,7 +123,7 @@ pub fn value(method: i64, value: InterpolatedValue) {
             word(b" ");
             bits(x);
             word(b" charge ");
-            charged(charge::charge(x));
+            charged(estivolh::charge(x));
         }
         InterpolatedValue::Refused(n) => ending(b" refused ", n),
     }
