@@ -5,10 +5,9 @@ use Prim.Native.Nat.{ℕ, zero, suc, _+_, _/_, _%_}
 use lib.Dec.{ltb, eqb}
 use lib.IntN.{ℤ}
 use lib.ListN.{length, drop}
-use Rattle.charge.specs.Charging.{RefusedEntry}
 use Rattle.book.specs.declared.Book.{Book}
 use Rattle.book.specs.declared.Returned.{Returned}
-use Rattle.book.specs.Books.{Limit, totalWear, countOf, chargeBook, spliceBook, badBook}
+use Rattle.book.specs.Books.{totalWear, countOf, chargeBook, spliceBook, badBook}
 use Rattle.reading.specs.Reading.{chartRefusalOf}
 use Rattle.entries.specs.declared.Entry.{Entry}
 use Rattle.entries.specs.declared.Ruling.{Ruling}

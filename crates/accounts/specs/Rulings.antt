@@ -1,7 +1,7 @@
 -- 01, rows 12 to 16: what follows for an entry from s, chart and entry alone.
 use mathlib.Core.Path.{_≡_, refl}
 use mathlib.Core.List.{List}
-use mathlib.Core.Bool.{Bool, true, false, not, cond, _&&_, _||_, true≢false}
+use mathlib.Core.Bool.{Bool, true, false, not, cond, true≢false}
 use Prim.Native.Nat.{ℕ, _≤_, _<_}
 use native.Mathlib.Omega.{arith}
 use lib.Dec.{ltb}
@@ -9,8 +9,6 @@ use lib.IntN.{ℤ, pos, negsuc}
 use lib.Ieee.{Float}
 use borrow.Author.Tests.{ltb-true, not-false}
 use Rattle.whole.specs.Bools.{or-false}
-use Rattle.whole.specs.Bound.{outside}
-use Rattle.whole.specs.Test.{eqZ}
 use Rattle.geometry.specs.declared.Place.{Place}
 use Rattle.geometry.specs.Plane.{offGrid}
 use Rattle.chart.specs.Tables.{unsigned}

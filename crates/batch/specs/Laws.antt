@@ -1,11 +1,10 @@
 -- What the ruling on an entry is at each of its tests, and that its verdict suits the answer's and the book's sums. Assumes nothing.
-use mathlib.Core.Path.{_≡_, refl, ap, _∙_}
+use mathlib.Core.Path.{_≡_, refl, ap}
 use mathlib.Core.List.{List, []}
 use mathlib.Core.Bool.{Bool, true, false, cond, true≢false}
 use Prim.Native.Nat.{ℕ}
 use native.Mathlib.Omega.{arith}
 use lib.Dec.{eqb}
-use lib.IntN.{ℤ}
 use lib.Ieee.{Float}
 use Rattle.whole.specs.Bools.{or-false}
 use Rattle.geometry.specs.Plane.{offGrid}

@@ -1,7 +1,7 @@
 -- The loop over a batch's entries: what holds after i of n of them, one entry more, and the end. Assumes nothing.
 use mathlib.Core.Path.{_≡_, refl, sym, _∙_, ap}
 use mathlib.Core.List.{List, [], _∷_, _++_, append-nil}
-use Prim.Native.Nat.{ℕ, suc, _+_, _-_, _*_, _/_, _≤_, _<_}
+use Prim.Native.Nat.{ℕ, suc, _+_, _-_, _*_, _≤_, _<_}
 use native.Mathlib.Omega.{arith}
 use native.Mathlib.Numerals.{add-one}
 use lib.IntN.{ℤ}
@@ -10,11 +10,11 @@ use lib.Seq.{take-suc-set, append-snoc, drop-set-lt, drop-drop, length-take-le}
 use Rattle.book.specs.declared.Book.{Book}
 use Rattle.book.specs.Books.{ValidBook}
 use Rattle.entries.specs.declared.Entry.{Entry}
-use Rattle.entries.specs.Entry.{EntryWidth, entryAt, entriesFrom, entriesOf}
+use Rattle.entries.specs.Entry.{EntryWidth, entryAt, entriesFrom}
 use Rattle.accounts.specs.Rulings.{Queries}
 use Rattle.accounts.specs.Batch.{bookAfter, answersFrom, overlay}
 use Rattle.accounts.specs.Agree.{entries-valid}
-use Rattle.batch.specs.Tables.{stepOf, Worked, worked}
+use Rattle.batch.specs.Tables.{stepOf, worked}
 
 module _ (Q : Queries) (bytes : List ℕ) (es : List ℤ) (lent : List ℕ) (n : ℕ) (b₀ : Book) where
   -- the entries from the i-th on

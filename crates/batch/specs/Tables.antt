@@ -1,6 +1,7 @@
 -- 01, "Charge, entry, book", on a chart's tables: what the queries say, one entry, and what a batch leaves.
 use mathlib.Core.List.{List}
 use Prim.Native.Nat.{ℕ}
+use lib.IntN.{ℤ}
 use Rattle.chart.specs.Chart.{Chart}
 use Rattle.values.specs.Value.{methodOf, valueOn}
 use Rattle.book.specs.declared.Book.{Book}
@@ -8,9 +9,10 @@ use Rattle.book.specs.Books.{ChargeFits, SpliceFits}
 use Rattle.entries.specs.declared.Entry.{Entry}
 use Rattle.entries.specs.declared.Ruling.{Ruling}
 use Rattle.entries.specs.declared.Ruling.the-variants.{Bend, Splice, Refused}
+use Rattle.entries.specs.Entry.{entriesOf}
 use Rattle.entries.specs.Ruling.{answerOf}
 use Rattle.accounts.specs.Rulings.{Queries}
-use Rattle.accounts.specs.Batch.{bookVerdict, bookChange}
+use Rattle.accounts.specs.Batch.{bookVerdict, bookChange, bookAfter, answersFrom, overlay}
 use Rattle.batch.specs.declared.Step.{Step}
 
 -- the value of a load by a method, whatever the bytes from which the tables were read
@@ -34,3 +36,6 @@ pub record Worked : Type 0 where
 
 abbrev pub worked : Book → List ℕ → Worked
 worked b left = record { book = b; answers = left }
+
+abbrev pub workedOf : Queries → List ℕ → Book → List ℤ → List ℕ → Worked
+workedOf Q bytes b es lent = worked (bookAfter Q bytes b (entriesOf es)) (overlay (answersFrom Q bytes b (entriesOf es)) lent)

@@ -1,6 +1,7 @@
 // A batch's entries on checked tables (01, "Charge, entry, book"): the ruling on an entry, 12 to 17, and the loop.
 use book::Book;
 use charge::Charged;
+use entries::ENTRY_WIDTH;
 use entries::Entry;
 use entries::Ruling;
 use geometry::Place;
@@ -15,15 +16,12 @@ ghost use Rattle.accepted.specs.Accepted.{Accepted};
 ghost use Rattle.values.specs.Value.{locatedValue};
 ghost use Rattle.charge.specs.Charging.{ChargeMax};
 ghost use Rattle.book.specs.Books.{ValidBook, totalWear, countOf};
-ghost use Rattle.entries.specs.Entry.{EntryWidth, entriesOf};
+ghost use Rattle.entries.specs.Entry.{EntryWidth};
 ghost use Rattle.entries.specs.declared.Ruling.the-variants.{Bend};
 ghost use Rattle.entries.specs.Ruling.{with17};
 ghost use Rattle.accounts.specs.Rulings.{Known, charged, located, entryRuling};
-ghost use Rattle.accounts.specs.Batch.{bookChange, bookAfter, answersFrom, overlay};
-ghost use Rattle.batch.specs.Tables.{onTables, Changeable, stepOf, Worked, worked};
-
-// How many numbers an entry has (`EntryWidth`).
-const ENTRY_WIDTH: usize = 5;
+ghost use Rattle.accounts.specs.Batch.{bookChange};
+ghost use Rattle.batch.specs.Tables.{onTables, Changeable, stepOf, worked, workedOf};
 
 // An entry's answer, and the book after it.
 pub struct Step {
@@ -139,7 +137,7 @@ pub fn work(
     answers: &mut [u64],
 ) -> Book
     requires { ⌜ Accepted (chartOf (now vertices) (now edges) (now faces)) ⌝ ∗ ⌜ ValidBook book ⌝ ∗ ⌜ length (now entries) / EntryWidth ≤ length (now answers) ⌝ }
-    ensures { λ r. ⌜ worked r (now (answers .exit)) ≡ worked (bookAfter (onTables (chartOf (now (vertices .entry)) (now (edges .entry)) (now (faces .entry)))) [] book (entriesOf (now (entries .entry)))) (overlay (answersFrom (onTables (chartOf (now (vertices .entry)) (now (edges .entry)) (now (faces .entry)))) [] book (entriesOf (now (entries .entry)))) (now (answers .entry))) ⌝ }
+    ensures { λ r. ⌜ worked r (now (answers .exit)) ≡ workedOf (onTables (chartOf (now (vertices .entry)) (now (edges .entry)) (now (faces .entry)))) [] book (now (entries .entry)) (now (answers .entry)) ⌝ }
 {
     let n = entries.len() / ENTRY_WIDTH;
     let mut b = book;

@@ -5,7 +5,7 @@ ghost use Rattle.whole.specs.First.{some};
 ghost use Rattle.book.specs.Books.{Limit, SectionMax, totalWear, wearAbove, countAbove, strayNumbers, strayAt, badSections, bookRefusal, zeroBook, freshBook, chargeBook, spliceBook, ChargeFits, SpliceFits};
 
 // The account's limit (`Limit`), and the most sections that a book has (`SectionMax`).
-const LIMIT: u64 = 1_000_000_000_000;
+pub const LIMIT: u64 = 1_000_000_000_000;
 
 const SECTION_MAX: usize = 16;
 

@@ -1,23 +1,23 @@
 -- Demand 3 of the public calls `fresh` and `batch`: `demand`, and of calls that were made, `demand-made`. Assumes nothing.
 use mathlib.Core.Path.{_≡_, refl, sym, _∙_, ap, subst}
 use mathlib.Core.List.{List, [], _∷_, _++_, append-nil}
-use mathlib.Core.Bool.{Bool, false, not, cond, _||_}
-use Prim.Native.Nat.{ℕ, zero, suc, _+_, _-_, _*_, _/_, _%_, _≤_, _<_}
+use mathlib.Core.Bool.{not, cond}
+use Prim.Native.Nat.{ℕ, zero, suc, _+_, _-_, _*_, _/_, _%_, _≤_}
 use native.Mathlib.Omega.{arith}
-use lib.Dec.{ltb, eqb}
+use lib.Dec.{eqb}
 use lib.IntN.{ℤ, pos}
-use lib.ListN.{length, getD, take, drop, length-drop}
+use lib.ListN.{length, take, drop, length-drop}
 use lib.Seq.{getD-take, getD-drop, length-take-le}
 use borrow.Author.Tests.{eq-eqb, le-ltb}
 use Rattle.reading.specs.Reading.{chartRefusalOf}
 use Rattle.book.specs.declared.Book.{Book}
 use Rattle.book.specs.declared.Returned.{Returned}
-use Rattle.book.specs.Books.{SectionMax, freshBook}
+use Rattle.book.specs.Books.{SectionMax}
 use Rattle.entries.specs.declared.Entry.{Entry}
 use Rattle.entries.specs.Entry.{EntryWidth, entryAt, entriesFrom, entriesOf}
 use Rattle.accounts.specs.Batch.{badSlices, outcome, batchOf}
-use Rattle.accounts.specs.Tally.{Tally, tally}
-use Rattle.accounts.specs.Demand.{Call, refusalIn, fresh, joined, OneChart, Accounted, Demand3, Turn, Made, callsOf, lastBook, lastAnswers, Demand3Made}
+use Rattle.accounts.specs.Tally.{tally}
+use Rattle.accounts.specs.Demand.{Call, refusalIn, fresh, joined, OneChart, Accounted, Demand3, Turn, Made, callsOf, lastAnswers, Demand3Made}
 use Rattle.accounts.specs.Demand3.{demand3, demand3-made}
 use Rattle.estivolh.specs.Account.{queries}
 use Rattle.demand.specs.declared.Both.{Both}

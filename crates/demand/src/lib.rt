@@ -1,13 +1,10 @@
 // Demand 3 of the public calls: specs/Season.antt. Below, a function that makes such calls; what it promises is read off the theorem.
 use book::Book;
-ghost use mathlib.Core.Path.{_≡_};
+use entries::ENTRY_WIDTH;
 ghost use Prim.Native.Nat.{_≤_};
 ghost use lib.ListN.{length};
 ghost use Rattle.book.specs.Books.{SectionMax};
 ghost use Rattle.demand.specs.Season.{Divisible, Alike};
-
-// How many numbers an entry has (`EntryWidth`).
-const ENTRY_WIDTH: usize = 5;
 
 // The books of a log worked as one batch, and as two.
 pub struct Both {

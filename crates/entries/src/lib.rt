@@ -1,4 +1,5 @@
 // An entry of the log, its row 12, and what becomes of it (01, "Charge, entry, book").
+use book::LIMIT;
 use geometry::Place;
 ghost use mathlib.Core.Path.{_≡_};
 ghost use Prim.Native.Nat.{_≤_, _<_, _+_, _^_};
@@ -6,10 +7,10 @@ ghost use lib.ListN.{length};
 ghost use Rattle.entries.specs.Entry.{EntryWidth, entryAt, untidy, unknownKind, unknown, placeIn};
 ghost use Rattle.entries.specs.Ruling.{Sound, answerOf, meets17};
 
-// What a refused entry's answer is above (`RefusedEntry`), and the account's limit (`Limit`).
-const REFUSED_ENTRY: u64 = 2_000_000;
+// How many numbers an entry has (`EntryWidth`), and what a refused entry's answer is above (`RefusedEntry`).
+pub const ENTRY_WIDTH: usize = 5;
 
-const LIMIT: u64 = 1_000_000_000_000;
+const REFUSED_ENTRY: u64 = 2_000_000;
 
 pub struct Entry {
     pub kind: i64,

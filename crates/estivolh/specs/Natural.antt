@@ -18,7 +18,6 @@ use Rattle.reading.specs.declared.Head.{Head}
 use Rattle.reading.specs.declared.Head.the-variants as H
 use Rattle.reading.specs.Reading.{headOf, loadOf}
 use Rattle.locate.specs.declared.Location.{Location}
-use Rattle.locate.specs.declared.Location.the-variants.{OnVertex, OnEdge, OnFace, OutsideOfConvexHull, NoPlace}
 use Rattle.locate.specs.Location.{locationOf}
 use Rattle.neighbors.specs.Neighbors.{neighborsOf}
 use Rattle.natural.specs.Natural.{Outcome, naturalWeightsOf}

@@ -10,8 +10,6 @@ use Rattle.chart.specs.Chart.{Chart, chartOf}
 use Rattle.checks.specs.Checks.{Loaded}
 use Rattle.checks.specs.Checks.Loaded.{loaded, refused}
 use Rattle.reading.specs.Reading.{chartIn}
-use Rattle.locate.specs.declared.Location.{Location}
-use Rattle.locate.specs.declared.Location.the-variants.{OnVertex, OnEdge, OnFace, OutsideOfConvexHull, NoPlace}
 use Rattle.locate.specs.Location.{locationOf}
 use Rattle.weights.specs.declared.BarycentricWeights.{BarycentricWeights}
 use Rattle.weights.specs.declared.BarycentricWeights.the-variants.{OneVertex, TwoWeights, ThreeWeights, Refused}

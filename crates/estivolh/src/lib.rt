@@ -2,6 +2,7 @@
 use book::Book;
 use book::Returned;
 use charge::Charged;
+use entries::ENTRY_WIDTH;
 use geometry::Place;
 use locate::Location;
 use reading::Head;
@@ -15,7 +16,6 @@ ghost use Rattle.geometry.specs.Plane.{OnGrid};
 ghost use Rattle.chart.specs.Tables.{rows};
 ghost use Rattle.chart.specs.Chart.{chartOf, InRange};
 ghost use Rattle.ranges.specs.Passed.{Counted};
-ghost use Rattle.locate.specs.Location.{locationOf};
 ghost use Rattle.reading.specs.Reading.{loadOf, refusalOf, chartRefusalOf};
 ghost use Rattle.gradient.specs.Gradient.{Valued};
 ghost use Rattle.estivolh.specs.Gradient.{gradientSays, gradientOn, gradientIn, estimateOf};
@@ -473,9 +473,6 @@ pub fn fresh(sections: u64) -> Returned
 {
     book::fresh(sections)
 }
-
-// How many numbers an entry has (`EntryWidth`).
-const ENTRY_WIDTH: usize = 5;
 
 // Whether 2 meets an entry slice and an answer slice of these lengths.
 fn bad_slices(numbers: usize, room: usize) -> bool

@@ -3,7 +3,7 @@ use mathlib.Core.Path.{_≡_, refl}
 use mathlib.Core.List.{List, [], _∷_, _++_}
 use Prim.Native.Nat.{ℕ}
 use lib.IntN.{ℤ, pos, negsuc}
-use lib.Ieee.{binary64, add, sub, mul, div, le, neg, eq, ofBits, ofInt}
+use lib.Ieee.{add, sub, mul, div, le, neg, eq, ofBits, ofInt}
 use Rattle.whole.specs.First.{from}
 use Rattle.text.specs.Bytes.{eqs}
 use Rattle.text.specs.Field.{spacesOf, digitsOf, columns, lastDigit, fieldText, valueOf, candidate, fieldOf}
@@ -22,7 +22,7 @@ use Rattle.values.specs.Value.{locatedValue, valueOn}
 use Rattle.book.specs.declared.Book.{Book}
 use Rattle.book.specs.Books.{badBook}
 use Rattle.accounts.specs.Rulings.{entryRuling}
-use Rattle.accounts.specs.Batch.{Outcome, batchOf}
+use Rattle.accounts.specs.Batch.{batchOf}
 use Rattle.accounts.specs.Demand.{Call, fresh, after, answers}
 use Rattle.estivolh.specs.Account.{queries}
 use Rattle.rim.specs.TriangleA.{fileA, verticesA, edgesA, facesA}

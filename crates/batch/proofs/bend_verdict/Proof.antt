@@ -1,5 +1,5 @@
 -- `batch::bend_verdict` meets its contract: 17, by the total and the count. Assumes nothing.
-use mathlib.Core.Path.{_≡_, sym, ap, subst, _∙_}
+use mathlib.Core.Path.{_≡_, sym, ap, _∙_}
 use Prim.Native.Nat.{ℕ}
 use Rattle.book.specs.Books.{totalWear, countOf}
 use Rattle.entries.specs.Ruling.{meets17}

@@ -1,6 +1,5 @@
 -- `batch::changed` meets its contract: by the ruling. Assumes nothing.
 use mathlib.Core.Path.{sym, ap, subst, _∙_}
-use Rattle.entries.specs.declared.Ruling.{Ruling}
 use Rattle.accounts.specs.Batch.{bookChange}
 use Rattle.batch.specs.Tables.{Changeable}
 use borrow.Author.Needs.{needs}

@@ -1,6 +1,5 @@
 -- `batch::charged_bend` meets its contract: by the charge. Assumes nothing.
-use mathlib.Core.Path.{sym, ap, subst, _∙_}
-use Rattle.charge.specs.declared.Charged.{Charged}
+use mathlib.Core.Path.{sym, ap, _∙_}
 use Rattle.charge.specs.Charging.{chargeCase}
 use Rattle.entries.specs.declared.Ruling.the-variants.{Bend, Refused}
 use borrow.Author.Needs.{needs}

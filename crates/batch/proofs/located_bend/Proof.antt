@@ -1,5 +1,5 @@
 -- `batch::located_bend` meets its contract: by the value, or the location's refusal. Assumes nothing.
-use mathlib.Core.Path.{sym, ap, subst, _∙_}
+use mathlib.Core.Path.{sym, ap, _∙_}
 use Rattle.accounts.specs.Rulings.{located}
 use borrow.Author.Needs.{needs}
 use Rattle.batch.proofs.located_bend.Statement.{statement}

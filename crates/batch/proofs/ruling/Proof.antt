@@ -1,5 +1,5 @@
 -- `batch::ruling` meets its contract: 12, 13, a splice, or a bend where its load lies. Assumes nothing.
-use mathlib.Core.Path.{_≡_, sym, ap, subst, _∙_}
+use mathlib.Core.Path.{_≡_, sym, ap, _∙_}
 use mathlib.Core.Bool.{false}
 use Prim.Native.Nat.{ℕ}
 use Rattle.geometry.specs.declared.Place.{Place}

@@ -1,7 +1,6 @@
 -- `batch::verdict` meets its contract: 17 meets bends only. Assumes nothing.
 use mathlib.Core.Path.{sym, ap, subst, _∙_}
 use Rattle.book.specs.Books.{totalWear, countOf}
-use Rattle.entries.specs.declared.Ruling.{Ruling}
 use Rattle.entries.specs.Ruling.{with17}
 use Rattle.accounts.specs.Rulings.{Known}
 use borrow.Author.Needs.{needs}

@@ -8,7 +8,7 @@ use lib.Seq.{length-take-le, take-all}
 use lib.ListN.{length, take, drop, length-drop}
 use Rattle.book.specs.declared.Book.{Book}
 use Rattle.book.specs.declared.Returned.{Returned}
-use Rattle.accounts.specs.Batch.{outcome, batchOf}
+use Rattle.accounts.specs.Batch.{batchOf}
 use Rattle.accounts.specs.Demand.{fresh}
 use Rattle.estivolh.specs.Account.{queries}
 use Rattle.demand.specs.Season.{alike}

@@ -2,7 +2,6 @@
 use mathlib.Core.Path.{sym, ap, subst}
 use Prim.Native.Nat.{_≤_}
 use native.Mathlib.Omega.{arith}
-use Rattle.entries.specs.declared.Ruling.{Ruling}
 use Rattle.entries.specs.Ruling.{Sound, LastRefusal, answerOf}
 use borrow.Author.Needs.{needs}
 use Rattle.entries.proofs.answer_of.Statement.{statement}

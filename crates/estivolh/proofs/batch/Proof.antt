@@ -1,7 +1,6 @@
 -- `estivolh::batch` meets its contract: 1, 2, then the head decides, or the body does. Assumes nothing.
 use mathlib.Core.Path.{_≡_, sym, ap, _∙_}
 use mathlib.Core.Bool.{false, not}
-use native.Mathlib.Omega.{arith}
 use borrow.Author.Tests.{ltb-false}
 use lib.ListN.{length}
 use Rattle.whole.specs.Bools.{or-false}

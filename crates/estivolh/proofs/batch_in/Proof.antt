@@ -1,5 +1,5 @@
 -- `estivolh::batch_in` meets its contract: a body that is not refused has an accepted chart. Assumes nothing.
-use mathlib.Core.Path.{_≡_, sym, ap, _∙_}
+use mathlib.Core.Path.{sym, ap, _∙_}
 use lib.Seq.{length-take-le}
 use Rattle.checks.specs.Checks.{Loaded}
 use Rattle.reading.specs.Laws.{told-zero, told-other}

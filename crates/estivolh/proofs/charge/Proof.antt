@@ -1,5 +1,5 @@
 -- `estivolh::charge` meets its contract: it is the charge. Assumes nothing.
-use mathlib.Core.Path.{_≡_, sym, ap, _∙_}
+use mathlib.Core.Path.{ap}
 use Rattle.estivolh.specs.Account.{chargeSays}
 use borrow.Author.Needs.{needs}
 use Rattle.estivolh.proofs.charge.Statement.{statement}
