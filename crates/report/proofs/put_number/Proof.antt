@@ -1,0 +1,104 @@
+-- `report::put_number` meets its contract. The invariant: the columns still to write, before those that are written, are the field.
+use Prim.Native.Nat.{ℕ, _<_, _-_, _/_}
+use mathlib.Core.Path.{_≡_, refl, ap, sym, _∙_}
+use mathlib.Core.List.{List, _∷_, _++_}
+use native.Mathlib.Omega.{arith}
+use lib.ListN.{length, drop, set, length-set}
+use lib.Seq.{drop-length}
+use Rattle.text.specs.Field.{columns}
+use Rattle.report.specs.Lines.{printed}
+use Rattle.report.proofs.Laws.{columns-none, last-column, column-step, column-put}
+use borrow.Author.Needs.{needs}
+use Rattle.report.proofs.put_number.Statement.{statement}
+use Rattle.report.proofs.put_number.Tie as tie
+
+abbrev Inv-loop : tie.InvT-loop
+Inv-loop field₀ n k₀ left₀ field k left =
+    (k < length field) × (length field ≡ length field₀) × (printed (length field₀) n ≡ columns k 32 left ++ drop k field)
+
+abbrev μ-loop : tie.MeasureT-loop
+μ-loop field₀ n k₀ left₀ field k left = k
+
+sub-k : tie.Need-sub-k Inv-loop μ-loop
+sub-k c = search needs
+
+digit-requires : tie.Need-digit-requires Inv-loop μ-loop
+digit-requires c κs = search needs
+
+slice-write-field : tie.Need-slice-write-field Inv-loop μ-loop
+slice-write-field c = search needs
+
+loop-holds : tie.Need-loop-holds Inv-loop μ-loop
+loop-holds c =
+    let a = c .before .before .args in
+    let s = a .field .now in
+    let p = c .before .before .pre in
+    let f = c .digit in
+    let w = length-set s (length s - 1) (f .result) in (
+      rw w (omega arith),
+      refl,
+      ap (λ (k : ℕ). printed k (a .n)) w
+          ∙ last-column (length s) (a .n) p
+          ∙ ap (λ (t : List ℕ). columns (length s - 1) 32 (a .n / 10) ++ t)
+          (rw (← f .ensures) (sym (column-put s (length s) (f .result) p (omega arith) ∙ ap (λ (t : List ℕ). f .result ∷ t) (drop-length s)))),
+    )
+
+sub-k-2 : tie.Need-sub-k-2 Inv-loop μ-loop
+sub-k-2 c = search needs
+
+column-requires : tie.Need-column-requires Inv-loop μ-loop
+column-requires c κs = search needs
+
+slice-write-field-2 : tie.Need-slice-write-field-2 Inv-loop μ-loop
+slice-write-field-2 c = search needs
+
+loop-less : tie.Need-loop-less Inv-loop μ-loop
+loop-less c = search needs
+
+loop-again : tie.Need-loop-again Inv-loop μ-loop
+loop-again c =
+    let l = c .before .before .loop in
+    let b = c .column .result in
+    let p = c .before .loop-test .taken in (
+      simp length-set (omega arith),
+      length-set (l .field) (l .k - 1) b ∙ l .inv .1,
+      column-step (l .field) _ (l .k) (l .left) p (l .inv .2)
+          ∙ ap (λ (t : List ℕ). columns (l .k - 1) 32 (l .left / 10) ++ t)
+          (rw (← c .column .ensures) (sym (column-put (l .field) (l .k) b p (omega arith)))),
+    )
+
+same-length : tie.Need-same-length Inv-loop μ-loop
+same-length c =
+    let s = c .before .before .before .before .args .field .now in
+    c .before .loop .inv .1 ∙ length-set s (length s - 1) (c .before .before .digit .result)
+
+returns : tie.Need-returns Inv-loop μ-loop
+returns c =
+    let a = c .before .before .before .before .args in
+    let s = a .field .now in
+    let l = c .before .loop in
+    let z : l .k ≡ 0 = omega arith in
+    let e : printed (length s) (a .n) ≡ l .field =
+    ap (λ (k : ℕ). printed k (a .n)) (sym (length-set s (length s - 1) (c .before .before .digit .result)))
+    ∙ l .inv .2
+    ∙ ap (λ (k : ℕ). columns k 32 (l .left) ++ drop k (l .field)) z
+    ∙ ap (λ (t : List ℕ). t ++ l .field) (columns-none (l .left)) in
+    sym e
+
+pub put-number-spec : {M : Type 1} → statement M
+put-number-spec =
+    tie.close
+    (tie.spec
+    Inv-loop
+    μ-loop
+    sub-k
+    digit-requires
+    slice-write-field
+    loop-holds
+    sub-k-2
+    column-requires
+    slice-write-field-2
+    loop-less
+    loop-again
+    same-length
+    returns)

@@ -1,0 +1,50 @@
+-- `report::put_section` meets its contract: its fields, then LF, one after the other.
+use mathlib.Core.List.{[], _∷_, _++_}
+use native.Mathlib.Omega.{arith}
+use Rattle.text.specs.Field.{fieldWidth}
+use Rattle.report.specs.Lines.{wideField, lineFeed, printed, sectionLine}
+use Rattle.report.specs.Laid.{then-laid}
+use Rattle.report.specs.Laws.{printed-length}
+use borrow.Author.Needs.{needs}
+use Rattle.report.proofs.put_section.Statement.{statement}
+use Rattle.report.proofs.put_section.Tie as tie
+
+put-field-requires : tie.Need-put-field-requires
+put-field-requires c κs = search needs
+
+put-field-requires-2 : tie.Need-put-field-requires-2
+put-field-requires-2 c κs = search needs
+
+put-field-requires-3 : tie.Need-put-field-requires-3
+put-field-requires-3 c κs = search needs
+
+put-line-end-requires : tie.Need-put-line-end-requires
+put-line-end-requires c κs = search needs
+
+same-length : tie.Need-same-length
+same-length c = search needs
+
+returns : tie.Need-returns
+unfolding sectionLine
+returns c =
+    let a = c .before .before .before .before .before .before .before .before .before .before .before .before .before .before .before .before .before .args in
+    let p = c .before .before .before .before .before .before .before .before .before .before .before .before .before .before .put-field in
+    let q = c .before .before .before .before .before .before .before .before .before .before .put-field2 in
+    let r = c .before .before .before .before .before .before .put-field3 in (
+      omega arith,
+      then-laid (a .out .now) (a .at) (printed fieldWidth (a .section)) (printed wideField (a .wear) ++ (printed wideField (a .bends) ++ (lineFeed ∷ []))) fieldWidth (p .result) (p .last .0) _ (printed-length fieldWidth (a .section)) (omega arith) (p .ensures .0) (p .ensures .1)
+          (then-laid (p .last .0) (p .result) (printed wideField (a .wear)) (printed wideField (a .bends) ++ (lineFeed ∷ [])) wideField (q .result) (q .last .0) _ (printed-length wideField (a .wear)) (omega arith) (q .ensures .0) (q .ensures .1)
+          (then-laid (q .last .0) (q .result) (printed wideField (a .bends)) (lineFeed ∷ []) wideField (r .result) (r .last .0) _ (printed-length wideField (a .bends)) (omega arith) (r .ensures .0) (r .ensures .1)
+          (c .before .before .put-line-end .ensures .1))),
+    )
+
+pub put-section-spec : {M : Type 1} → statement M
+put-section-spec =
+    tie.close
+    (tie.spec
+    put-field-requires
+    put-field-requires-2
+    put-field-requires-3
+    put-line-end-requires
+    same-length
+    returns)

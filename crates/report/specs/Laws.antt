@@ -1,0 +1,57 @@
+-- How many bytes the program's lines have. Assumes nothing.
+use Prim.Native.Nat.{ℕ, zero, suc, _+_, _*_, _/_}
+use mathlib.Core.List.{List, [], _∷_, _++_}
+use mathlib.Core.Path.{_≡_, refl, ap, _∙_}
+use native.Mathlib.Omega.{arith}
+use native.Mathlib.Nat.{mul-suc}
+use native.Mathlib.Numerals.{add-one}
+use lib.ListN.{length, length-append}
+use Rattle.text.specs.Field.{columns, lastDigit, fieldText}
+use Rattle.book.specs.declared.Book.{Book}
+use Rattle.report.specs.Lines.{printed, answerBytes, sectionBytes, retiredBytes, refusalBytes, bookBytes, answerLine, sectionLine, retiredLine, refusalLine, answerLines, sectionLines, bookLines, outputOf, programSections}
+
+columns-length : (k g n : ℕ) → length (columns k g n) ≡ k
+unfolding columns
+columns-length zero g n = refl
+columns-length (suc k) g zero = simp (length-append, columns-length k 32 zero, add-one)
+columns-length (suc k) g (suc m) = simp (length-append, columns-length k g (suc m / 10), add-one)
+
+-- a field has its columns
+pub printed-length : (w n : ℕ) → length (printed w n) ≡ w
+unfolding fieldText lastDigit
+printed-length zero n = refl
+printed-length (suc k) n = simp (length-append, columns-length k 32 (n / 10), add-one)
+
+pub answer-length : (i a : ℕ) → length (answerLine i a) ≡ answerBytes
+unfolding answerLine
+answer-length i a = simp (length-append, printed-length)
+
+pub section-length : (s w c : ℕ) → length (sectionLine s w c) ≡ sectionBytes
+unfolding sectionLine
+section-length s w c = simp (length-append, printed-length)
+
+pub retired-length : (w : ℕ) → length (retiredLine w) ≡ retiredBytes
+unfolding retiredLine
+retired-length w = simp (length-append, printed-length)
+
+pub refusal-length : (n : ℕ) → length (refusalLine n) ≡ refusalBytes
+unfolding refusalLine
+refusal-length n = simp (length-append, printed-length)
+
+pub answers-length : (i : ℕ) (s : List ℕ) → length (answerLines i s) ≡ answerBytes * length s
+unfolding answerLines
+answers-length i [] = refl
+answers-length i (a ∷ s) = simp (length-append, answer-length, answers-length (suc i) s) (omega arith)
+
+pub sections-length : (wear bends : List ℕ) (k : ℕ) → length (sectionLines wear bends k) ≡ sectionBytes * k
+unfolding sectionLines
+sections-length wear bends zero = refl
+sections-length wear bends (suc k) = simp (length-append, sections-length wear bends k, section-length) (omega arith)
+
+pub book-length : (b : Book) → length (bookLines b) ≡ bookBytes
+unfolding bookLines
+book-length b = simp (length-append, sections-length, retired-length)
+
+pub output-length : (s : List ℕ) (b : Book) → length (outputOf s b) ≡ answerBytes * length s + bookBytes
+unfolding outputOf
+output-length s b = simp (length-append, answers-length, book-length) (omega arith)
