@@ -1,0 +1,85 @@
+-- The batch of a log's entries on the program's fresh book, and what is printed.
+use Prim.Native.Nat.{ℕ, zero, suc, _+_, _/_, _%_, _≤_}
+use mathlib.Core.List.{List, [], _∷_}
+use mathlib.Core.Bool.{false}
+use mathlib.Core.Path.{_≡_, refl, ap, sym, _∙_}
+use native.Mathlib.Omega.{arith}
+use borrow.Author.Tests.{eq-eqb, le-ltb}
+use lib.IntN.{ℤ}
+use lib.ListN.{length, take, drop}
+use lib.Seq.{take-at, length-take-le}
+use Rattle.book.specs.declared.Book.{Book}
+use Rattle.book.specs.declared.Returned.{Returned}
+use Rattle.book.specs.Books.{badBook}
+use Rattle.book.specs.Laws.{fresh-valid, valid-book}
+use Rattle.reading.specs.Reading.{chartRefusalOf}
+use Rattle.entries.specs.declared.Entry.{Entry}
+use Rattle.entries.specs.Entry.{EntryWidth, entriesFrom, entriesOf}
+use Rattle.accounts.specs.Rulings.{Queries}
+use Rattle.accounts.specs.Batch.{Outcome, outcome, bookVerdict, bookChange, bookAfter, answersFrom, batchRefusal, batchOf, byRefusal}
+use Rattle.log.specs.Log.{Log, entriesMax, logOf}
+use Rattle.log.specs.Log.Log.{entries, refused}
+use Rattle.report.specs.Lines.{refusalLine, programSections, outputOf}
+use Rattle.estivolh.specs.Account.{queries}
+use Rattle.report.specs.Laid.{laid}
+use Rattle.bends.specs.Program.{programBook, afterChart, ranOf, printedOf, Printed, WholeEntries}
+
+-- ---- one answer for each entry
+
+answers-length : (Q : Queries) (chart : List ℕ) (b : Book) (es : List Entry) → length (answersFrom Q chart b es) ≡ length es
+answers-length Q chart b [] = refl
+answers-length Q chart b (e ∷ es) = ap suc (answers-length Q chart (bookChange b (bookVerdict Q chart b e)) es)
+
+from-length : (es : List ℤ) (at n : ℕ) → length (entriesFrom es at n) ≡ n
+from-length es at zero = refl
+from-length es at (suc n) = ap suc (from-length es (at + EntryWidth) n)
+
+-- ---- no refusal of a call meets the batch
+
+fresh-good : badBook programBook ≡ false
+fresh-good = valid-book programBook (fresh-valid programSections refl)
+
+not-refused : (chart : List ℕ) (es : List ℤ) (room : ℕ) → chartRefusalOf chart ≡ 0 → WholeEntries es → entriesMax ≤ room
+    → batchRefusal programBook chart (length es) room ≡ 0
+not-refused chart es room h w l =
+    let few : length es / EntryWidth ≤ room = omega arith in
+    rw (fresh-good, eq-eqb (length es % EntryWidth) 0 (w .whole), le-ltb room (length es / EntryWidth) few) h
+
+-- What a batch that is not refused leaves.
+module _ (chart : List ℕ) (es : List ℤ) (lent left : List ℕ) (r : Returned) (h : chartRefusalOf chart ≡ 0) (w : WholeEntries es) (l : entriesMax ≤ length lent)
+    (e : outcome r left ≡ batchOf queries programBook chart es lent) where
+  done : outcome r left ≡ byRefusal queries 0 programBook chart es lent
+  done = e ∙ ap (λ (k : ℕ). byRefusal queries k programBook chart es lent) (not-refused chart es (length lent) h w l)
+
+  pub book-left : r .book ≡ bookAfter queries chart programBook (entriesOf es)
+  book-left = ap (λ (o : Outcome). o .book) done
+
+  pub answers-left : take (length es / EntryWidth) left ≡ answersFrom queries chart programBook (entriesOf es)
+  answers-left =
+      let new = answersFrom queries chart programBook (entriesOf es) in
+      ap (λ (o : Outcome). take (length es / EntryWidth) (o .answers)) done
+      ∙ take-at new (drop (length new) lent) (length es / EntryWidth)
+      (answers-length queries chart programBook (entriesOf es) ∙ from-length es 0 (length es / EntryWidth))
+
+-- ---- what is printed, in the order of the refusals
+
+pub printed-chart : (chart : List ℕ) (size : ℕ) (log : List ℕ) (k : ℕ) → chartRefusalOf chart ≡ k → (k ≡ 0 → ⊥) → printedOf chart size log ≡ refusalLine k
+unfolding printedOf
+printed-chart chart size log zero e h = absurd (h refl)
+printed-chart chart size log (suc k) e h = ap (λ (r : ℕ). afterChart r chart (logOf size log)) e
+
+pub printed-log : (chart : List ℕ) (size : ℕ) (log : List ℕ) (k : ℕ) → chartRefusalOf chart ≡ 0 → logOf size log ≡ refused k → printedOf chart size log ≡ refusalLine k
+unfolding printedOf
+printed-log chart size log k e f = ap (λ (r : ℕ). afterChart r chart (logOf size log)) e ∙ ap (afterChart 0 chart) f
+
+pub printed-entries : (chart : List ℕ) (size : ℕ) (log : List ℕ) (es : List ℤ) → chartRefusalOf chart ≡ 0 → logOf size log ≡ entries es
+    → printedOf chart size log ≡ ranOf chart es
+unfolding printedOf
+printed-entries chart size log es e f = ap (λ (r : ℕ). afterChart r chart (logOf size log)) e ∙ ap (afterChart 0 chart) f
+
+-- ---- what was put is what is printed
+
+pub put-printed : (old text new : List ℕ) (n r : ℕ) → length text ≡ n → n ≤ length old → length new ≡ length old → r ≡ n → new ≡ laid old 0 text → Printed old text new r
+put-printed old text new n r l h k e p =
+    let w : r ≤ length new = omega arith in
+    record { within = (w, sym (length-take-le r new w)); ends = e ∙ sym l; bytes = p }

@@ -1,0 +1,51 @@
+// What the program prints, as functions on slices.
+ghost use mathlib.Core.Path.{_≡_};
+ghost use Prim.Native.Nat.{_*_, _≤_};
+ghost use lib.ListN.{length};
+ghost use Rattle.reading.specs.Reading.{chartRefusalOf};
+ghost use Rattle.log.specs.Log.{entryFields, entriesMax};
+ghost use Rattle.bends.specs.Program.{outputMax, ranOf, printedOf, Printed, WholeEntries};
+
+// Room for the numbers and the answers of the longest log.
+fn entry_room() -> [i64; 2560]
+    ensures { λ r. ⌜ length r ≡ entryFields * entriesMax ⌝ }
+{
+    [0i64; 2560]
+}
+
+fn answer_room() -> [u64; 512]
+    ensures { λ r. ⌜ length r ≡ entriesMax ⌝ }
+{
+    [0u64; 512]
+}
+
+// The entries of a log on a fresh book, under an accepted chart: the answers and the book.
+fn print_entries(chart: &[u8], entries: &[i64], out: &mut [u8]) -> usize
+    requires { ⌜ chartRefusalOf (now chart) ≡ 0 ⌝ ∗ ⌜ WholeEntries (now entries) ⌝ ∗ ⌜ outputMax ≤ length (now out) ⌝ }
+    ensures { λ r. ⌜ Printed (now (out .entry)) (ranOf (now (chart .entry)) (now (entries .entry))) (now (out .exit)) r ⌝ }
+{
+    let mut answers = answer_room();
+    let fresh = estivolh::fresh(report::SECTIONS as u64);
+    let done = estivolh::batch(fresh.book, chart, entries, &mut answers);
+    let n = entries.len() / log::ENTRY_FIELDS;
+    report::put_output(out, &answers[..n], done.book)
+}
+
+// What the program prints for a chart and a log of `size` bytes, of which the first that an accepted log can have are enough.
+// How many bytes of `out` that is.
+pub fn print(chart: &[u8], size: usize, log: &[u8], out: &mut [u8]) -> usize
+    requires { ⌜ outputMax ≤ length (now out) ⌝ }
+    ensures { λ r. ⌜ Printed (now (out .entry)) (printedOf (now (chart .entry)) size (now (log .entry))) (now (out .exit)) r ⌝ }
+{
+    let refusal = estivolh::check(chart);
+    if refusal != 0 {
+        return report::put_refusal(out, refusal);
+    }
+    let mut entries = entry_room();
+    let read = log::read_log(size, log, &mut entries);
+    if read.refusal != 0 {
+        return report::put_refusal(out, read.refusal);
+    }
+    let k = log::ENTRY_FIELDS * read.entries;
+    print_entries(chart, &entries[..k], out)
+}
