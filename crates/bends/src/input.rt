@@ -1,5 +1,5 @@
 // What the program reads: the bytes of chart.txt, and how long the log is.
-ghost use Prim.Native.Nat.{_≤_, min};
+ghost use Prim.Native.Nat.{_≤_, _<_, min};
 ghost use mathlib.Core.Path.{_≡_};
 ghost use Rattle.io.specs.Counts.{Counts};
 use libc::STDIN_FILENO;
@@ -34,7 +34,9 @@ fn read_file(fd: i32, space: &mut [u8]) -> usize
 }
 
 // How many bytes the log has, of which the first `kept` are read: where they fill their room, the rest is read and counted.
-pub fn log_size(kept: usize, room: usize) -> usize {
+pub fn log_size(kept: usize, room: usize) -> usize
+    ensures { λ r. ⌜ (kept ≤ r) × (kept < room → r ≡ kept) ⌝ }
+{
     if kept < room {
         return kept;
     }
