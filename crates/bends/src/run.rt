@@ -1,4 +1,5 @@
 // What the program prints, as functions on slices.
+use entries::ENTRY_WIDTH;
 ghost use mathlib.Core.Path.{_≡_};
 ghost use Prim.Native.Nat.{_*_, _≤_};
 ghost use lib.ListN.{length};
@@ -27,7 +28,7 @@ fn print_entries(chart: &[u8], entries: &[i64], out: &mut [u8]) -> usize
     let mut answers = answer_room();
     let fresh = estivolh::fresh(report::SECTIONS as u64);
     let done = estivolh::batch(fresh.book, chart, entries, &mut answers);
-    let n = entries.len() / log::ENTRY_FIELDS;
+    let n = entries.len() / ENTRY_WIDTH;
     report::put_output(out, &answers[..n], done.book)
 }
 
@@ -46,6 +47,6 @@ pub fn print(chart: &[u8], size: usize, log: &[u8], out: &mut [u8]) -> usize
     if read.refusal != 0 {
         return report::put_refusal(out, read.refusal);
     }
-    let k = log::ENTRY_FIELDS * read.entries;
+    let k = ENTRY_WIDTH * read.entries;
     print_entries(chart, &entries[..k], out)
 }

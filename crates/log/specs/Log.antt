@@ -7,11 +7,12 @@ use lib.IntN.{ℤ}
 use lib.ListN.{length, drop}
 use Rattle.tables.specs.Table.{Cells, lineBytes, tableOf}
 use Rattle.tables.specs.Table.Cells.{cells, bad}
+use Rattle.entries.specs.Entry.{EntryWidth}
 use Rattle.log.specs.declared.LogRead.{LogRead}
 
 -- 01 "Program": "per entry five fields"
 abbrev pub entryFields : ℕ
-entryFields = 5
+entryFields = EntryWidth
 
 -- 01 "Program": "and LF, 41 bytes"
 abbrev pub entryBytes : ℕ

@@ -1,4 +1,5 @@
 // The program's log read: five fields and LF per entry, and the refusals 3, 4, 5 of a log.
+use entries::ENTRY_WIDTH;
 ghost use mathlib.Core.Path.{_≡_};
 ghost use mathlib.Core.List.{_++_};
 ghost use Prim.Native.Nat.{_*_, _≤_};
@@ -6,9 +7,7 @@ ghost use lib.ListN.{length, take, drop};
 ghost use Rattle.tables.specs.Table.{tableOf, given};
 ghost use Rattle.log.specs.Log.{entryFields, entriesMax, logOf, saidLog, logLeft};
 
-// How many fields an entry has, how many bytes, and how many entries a log has at most.
-pub const ENTRY_FIELDS: usize = 5;
-
+// How many bytes an entry has, and how many entries a log has at most.
 const ENTRY_BYTES: usize = 41;
 
 const ENTRIES_MAX: usize = 512;
@@ -35,8 +34,8 @@ fn fields(bytes: &[u8], n: usize, numbers: &mut [i64]) -> bool
     if bytes.len() < ENTRY_BYTES * n {
         return false;
     }
-    let k = ENTRY_FIELDS * n;
-    tables::table(bytes, 0, ENTRY_FIELDS, n, &mut numbers[..k])
+    let k = ENTRY_WIDTH * n;
+    tables::table(bytes, 0, ENTRY_WIDTH, n, &mut numbers[..k])
 }
 
 // Numbers into the first elements of a slice.
@@ -77,7 +76,7 @@ pub fn read_log(size: usize, bytes: &[u8], entries: &mut [i64]) -> LogRead
     if !fields(bytes, n, &mut numbers) {
         return refused(5);
     }
-    let k = ENTRY_FIELDS * n;
+    let k = ENTRY_WIDTH * n;
     copy_numbers(&numbers[..k], entries);
     LogRead {
         refusal: 0,
