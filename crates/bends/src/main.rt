@@ -1,6 +1,5 @@
 // 01's program: reads chart.txt and a log from standard input; prints each entry's answer and the book, or a refusal.
 mod input;
-mod run;
 
 use libc::STDIN_FILENO;
 use libc::STDOUT_FILENO;
@@ -12,6 +11,6 @@ fn main() {
     let chart = input::read_chart(&mut chart_space);
     let kept = io::read_full(STDIN_FILENO, &mut log_space);
     let size = input::log_size(kept, log_space.len());
-    let n = run::print(&chart_space[..chart], size, &log_space[..kept], &mut out);
+    let n = program::print(&chart_space[..chart], size, &log_space[..kept], &mut out);
     io::write_all(STDOUT_FILENO, &out[..n]);
 }

@@ -1,11 +1,11 @@
-// What the program prints, as functions on slices.
+// What 01's program prints for a chart and a log, as functions on slices.
 use entries::ENTRY_WIDTH;
 ghost use mathlib.Core.Path.{_≡_};
 ghost use Prim.Native.Nat.{_*_, _≤_};
 ghost use lib.ListN.{length};
 ghost use Rattle.reading.specs.Reading.{chartRefusalOf};
 ghost use Rattle.log.specs.Log.{entryFields, entriesMax};
-ghost use Rattle.bends.specs.Program.{outputMax, ranOf, printedOf, Printed, WholeEntries};
+ghost use Rattle.program.specs.Program.{outputMax, ranOf, printedOf, Printed, WholeEntries};
 
 // Room for the numbers and the answers of the longest log.
 fn entry_room() -> [i64; 2560]

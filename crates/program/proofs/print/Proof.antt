@@ -1,4 +1,4 @@
--- `run::print` meets its contract: chart first, then the log's refusals, then the entries.
+-- `program::print` meets its contract: chart first, then the log's refusals, then the entries.
 use Prim.Native.Nat.{_*_}
 use mathlib.Core.Path.{_≡_, sym, _∙_}
 use native.Mathlib.Omega.{arith}
@@ -9,10 +9,10 @@ use Rattle.log.specs.Log.Log.{refused}
 use Rattle.log.specs.Laws.{entered, read-refused}
 use Rattle.report.specs.Lines.{refusalBytes, refusalLine}
 use Rattle.report.specs.Laws.{refusal-length}
-use Rattle.bends.proofs.Laws.{printed-chart, printed-log, printed-entries, put-printed}
+use Rattle.program.proofs.Laws.{printed-chart, printed-log, printed-entries, put-printed}
 use borrow.Author.Needs.{needs}
-use Rattle.bends.proofs.run.print.Statement.{statement}
-use Rattle.bends.proofs.run.print.Tie as tie
+use Rattle.program.proofs.print.Statement.{statement}
+use Rattle.program.proofs.print.Tie as tie
 
 check-requires : tie.Need-check-requires
 check-requires c κs = search needs

@@ -18,7 +18,7 @@ use Rattle.reading.specs.Reading.{headLength, headLine, headOf, fileLength, bod
 use Rattle.reading.specs.Laws.{head-counted, head-refusal}
 use Rattle.log.specs.Log.{Log, logMax, wholeLog}
 use Rattle.log.specs.Laws.{kept-suffices}
-use Rattle.bends.specs.Program.{afterChart, printedOf, programOf}
+use Rattle.program.specs.Program.{afterChart, printedOf, programOf}
 
 -- so many bytes has the largest chart
 abbrev pub chartMax : ℕ

@@ -22,7 +22,7 @@ use Rattle.log.specs.Log.Log.{entries, refused}
 use Rattle.report.specs.Lines.{refusalLine, programSections, outputOf}
 use Rattle.estivolh.specs.Account.{queries}
 use Rattle.report.specs.Laid.{laid}
-use Rattle.bends.specs.Program.{programBook, afterChart, ranOf, printedOf, Printed, WholeEntries}
+use Rattle.program.specs.Program.{programBook, afterChart, ranOf, printedOf, Printed, WholeEntries}
 
 -- ---- one answer for each entry
 

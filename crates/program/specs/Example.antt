@@ -23,7 +23,7 @@ use Rattle.accounts.specs.Rulings.{entryRuling}
 use Rattle.rim.specs.TriangleA.{fileA, verticesA, edgesA, facesA}
 use Rattle.log.specs.Log.{logOf}
 use Rattle.report.specs.Lines.{answerLine, sectionLine, retiredLine, answerLines, sectionLines, bookLines, outputOf}
-use Rattle.bends.specs.Program.{ranOf, printedOf, programOf}
+use Rattle.program.specs.Program.{ranOf, printedOf, programOf}
 
 -- so many spaces, and then these bytes
 abbrev after : ℕ → List ℕ → List ℕ

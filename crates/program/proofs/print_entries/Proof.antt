@@ -1,4 +1,4 @@
--- `run::print_entries` meets its contract: the batch is not refused, and its answers and its book are printed.
+-- `program::print_entries` meets its contract: the batch is not refused, and its answers and its book are printed.
 use Prim.Native.Nat.{_+_, _*_, _/_, _≤_}
 use mathlib.Core.Path.{_≡_, sym, ap, _∙_}
 use native.Mathlib.Omega.{arith}
@@ -10,11 +10,11 @@ use Rattle.accounts.specs.Batch.{outcome, batchOf}
 use Rattle.report.specs.Lines.{answerBytes, bookBytes, outputOf}
 use Rattle.report.specs.Laws.{output-length}
 use Rattle.estivolh.specs.Account.{queries}
-use Rattle.bends.specs.Program.{programBook, ranOf}
-use Rattle.bends.proofs.Laws.{book-left, answers-left, put-printed}
+use Rattle.program.specs.Program.{programBook, ranOf}
+use Rattle.program.proofs.Laws.{book-left, answers-left, put-printed}
 use borrow.Author.Needs.{needs}
-use Rattle.bends.proofs.run.print_entries.Statement.{statement}
-use Rattle.bends.proofs.run.print_entries.Tie as tie
+use Rattle.program.proofs.print_entries.Statement.{statement}
+use Rattle.program.proofs.print_entries.Tie as tie
 
 answer-room-requires : tie.Need-answer-room-requires
 answer-room-requires c κs = search needs
