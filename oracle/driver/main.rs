@@ -12,7 +12,7 @@ mod chart;
 use chart::Chart;
 
 /// The kinds of lines that a case's answers have.
-const KINDS: [&str; 9] = ["verdict", "room", "gradient", "query", "location", "barycentric", "edges", "natural", "value"];
+const KINDS: [&str; 10] = ["verdict", "room", "gradient", "query", "location", "barycentric", "edges", "natural", "value", "batch"];
 /// Those that each query has.
 const QUERY: [&str; 6] = ["query", "location", "barycentric", "edges", "natural", "value"];
 
@@ -358,23 +358,32 @@ fn bends(chart: &[u8], log: &[u8]) -> String {
     run().unwrap_or_else(|n| format!("{n:>8}\n"))
 }
 
-/// `batch`: see README. First line: sections retired room (the answer slice's length), then 16 lines "wear bends",
-/// then the entry slice, numbers separated by blanks.
+/// `batch`: see README. Lines of numbers: sections, retired and room (the answer slice's length); 16 of wear and bends; the entry
+/// slice. Then for each further batch: room and cut, and its entry slice.
 fn batch(chart: &[u8], spec: &str) -> String {
-    let n: Vec<i128> = spec.split_whitespace().map(|w| w.parse().unwrap()).collect();
-    let mut book = Book::fresh(n[0] as u64);
-    book.retired = n[1] as u64;
-    let room = n[2] as usize;
+    let lines: Vec<Vec<i128>> = spec.lines().map(|l| l.split_whitespace().map(|w| w.parse().unwrap()).collect()).collect();
+    let mut book = Book::fresh(lines[0][0] as u64);
+    book.retired = lines[0][1] as u64;
     for i in 0..16 {
-        book.wear[i] = n[3 + 2 * i] as u64;
-        book.bends[i] = n[4 + 2 * i] as u64;
+        book.wear[i] = lines[1 + i][0] as u64;
+        book.bends[i] = lines[1 + i][1] as u64;
     }
-    let entries: Vec<i64> = n[35..].iter().map(|&v| v as i64).collect();
+    let mut out = one_batch(&mut book, chart, lines[0][2], &lines[17]);
+    for further in lines[18..].chunks(2) {
+        let kept = (chart.len() as i128 - further[0][1]).max(0) as usize;
+        out += &one_batch(&mut book, &chart[..kept], further[0][0], &further[1]);
+    }
+    out
+}
+
+/// The answers to one batch, and the book after it.
+fn one_batch(book: &mut Book, chart: &[u8], room: i128, numbers: &[i128]) -> String {
+    let entries: Vec<i64> = numbers.iter().map(|&v| v as i64).collect();
     let mut run = || -> Result<Vec<u64>, u32> {
         if book.bad() {
             return Err(1);
         }
-        if entries.len() % 5 != 0 || room < entries.len() / 5 {
+        if entries.len() % 5 != 0 || room < entries.len() as i128 / 5 {
             return Err(2);
         }
         let c = chart::read(chart, None)?;
@@ -471,7 +480,7 @@ fn main() {
                 if let (true, Ok(l)) = (only.all(), std::fs::read(d.join("log.txt"))) {
                     std::fs::write(d.join("bends.txt"), bends(&c, &l)).unwrap();
                 }
-                if let (true, Ok(l)) = (only.all(), std::fs::read_to_string(d.join("batch.txt"))) {
+                if let (true, Ok(l)) = (only.has("batch"), std::fs::read_to_string(d.join("batch.txt"))) {
                     std::fs::write(d.join("batch-answer.txt"), batch(&c, &l)).unwrap();
                 }
                 if n > 0 {

@@ -3,7 +3,7 @@
 
     gen.py DIR SEED ACCEPTED DAMAGED [MAXV]
 writes DIR/aNNNNN (accepted charts with queries.txt, log.txt, batch.txt, rooms.txt) and DIR/dNNNNN (damaged charts with
-expect.txt: the refusal and the kind of damage), and the families that are in every suite (README.md names them). Then run
+expect.txt: the refusal and the kind of damage), ACCEPTED lists of batches DIR/bNNNNN, and the families that are in every suite (README.md names them). Then run
 `oracle suite DIR` and `second.py suite DIR`.
 """
 import collections, math, os, random, sys
@@ -257,6 +257,32 @@ def batch_text(rnd, q):
     if rnd.random() < 0.06: es = es[:-1]
     if rnd.random() < 0.06: room = max(0, len(es) // 5 - 1)
     return '%d %d %d\n' % (s, retired, room) + ''.join('%d %d\n' % p for p in zip(wear, cnt)) + ' '.join(map(str, es)) + '\n'
+
+
+def list_text(rnd, q):
+    """A list of batches: on a fresh book, one that is nearly full, or one of any numbers."""
+    full, any_u64 = 10 ** 12, lambda: rnd.choice([0, 1, 16, 10 ** 12, 2 ** 63, 2 ** 64 - 1, rnd.getrandbits(64), rnd.getrandbits(rnd.randint(1, 64))])
+    s = rnd.choice([1, 2, 3, 5, 16])
+    rows, retired = [[0, 0] for _ in range(16)], 0
+    r = rnd.random()
+    if r < 0.35: retired = full - rnd.choice([0, 1, 1000, 500000, 2000000, 5000000])
+    if 0.25 < r < 0.5: rows[rnd.randrange(s)][1] = full - rnd.choice([0, 1, 2])
+    if r > 0.85: s, retired, rows = rnd.choice([s, any_u64()]), rnd.choice([0, any_u64()]), [[rnd.choice([0, any_u64()]) for _ in range(2)] for _ in range(16)]
+
+    def one():
+        es = [n for e in entries(rnd, q, rnd.choice([0, 1, 2, 5, 12]), min(max(s, 1), 16)) for n in e]
+        for _ in range(rnd.choice([0, 0, 0, 1, 2])):
+            if es: es[rnd.randrange(len(es))] = rnd.choice([-2 ** 63, 2 ** 63 - 1, 2 ** 32, 2 ** 32 + 1, -1, rnd.randint(-2 ** 63, 2 ** 63 - 1)])
+        if rnd.random() < 0.12: es = es[:-rnd.randint(1, 4)] if es else [rnd.randint(-3, 3)]
+        room = len(es) // 5 + rnd.choice([0, 0, 0, 0, 1, 600, 2 ** 64 - 1 - len(es), -1])
+        return max(room, 0), ' '.join(map(str, es))
+
+    room, es = one()
+    out = ['%d %d %d' % (s, retired, room)] + ['%d %d' % tuple(r) for r in rows] + [es]
+    for _ in range(rnd.randint(0, 6)):
+        room, es = one()
+        out += ['%d %d' % (room, rnd.choice([0, 0, 0, 0, 0, 0, 1, 9, 316, 2 ** 64 - 1])), es]
+    return '\n'.join(out) + '\n'
 
 
 # ---------------------------------------------------------------- damage
@@ -749,6 +775,14 @@ def main():
         q = queries(rnd, c, 8)
         write(p, 'log.txt', log_text(rnd, entries(rnd, q, rnd.randint(0, 3), 2)))
         write(p, 'batch.txt', batch_text(rnd, q))
+    rnd = random.Random('lists of batches %d' % seed)  # of its own: the other families stay as they were
+    for i in range(na):
+        kind, c = accepted(rnd, min(maxv, rnd.choice([3, 5, 12, 128])))
+        b = c.text() if i % 5 else damaged(rnd, c)[1]
+        p = 'b%05d' % i
+        write(p, 'chart.txt', b)
+        write(p, 'expect.txt', '%d a list of batches, %s\n' % (refusal(b), kind))
+        write(p, 'batch.txt', list_text(rnd, queries(rnd, c, 8)))
     print('accepted:', dict(kinds))
     print('damaged, by refusal:', dict(sorted(refusals.items())))
     print('clauses of 7:', dict(clauses.most_common(40)))

@@ -118,6 +118,9 @@ M = [
     ('1 forgets the counts past the end', " or any(cnt[s:])", ""),
     ('1 after 2', "    elif len(ent) % 5 or room < len(ent) // 5: r = 2\n", "    if len(ent) % 5 or room < len(ent) // 5: r = 2\n    elif not 1 <= s <= 16 or sum(wear) + retired > FULL or max(cnt) > FULL or any(wear[s:]) or any(cnt[s:]): r = 1\n"),
     ('2 after the chart', "    elif len(ent) % 5 or room < len(ent) // 5: r = 2\n    else: r = refusal(b)", "    else: r = refusal(b) or (2 if len(ent) % 5 or room < len(ent) // 5 else 0)"),
+    ('list: each batch on the first book', "        out += one_batch(t, b[", "        out += one_batch(Tally(s, retired, [w for w, n in rows], [n for w, n in rows]), b["),
+    ('list: never a damaged chart', "b[:max(0, len(b) - cut)]", "b"),
+    ('list: ends at a refused batch', "    while lines[at]:", "    while lines[at] and 'refused' not in out:"),
     ('log: count before length', "        if len(log) % 41: n = 3\n        elif len(log) > 41 * 512: n = 4", "        if len(log) > 41 * 512: n = 4\n        elif len(log) % 41: n = 3"),
     ('log: 512 are too many', "len(log) > 41 * 512", "len(log) >= 41 * 512"),
 ]

@@ -1,10 +1,10 @@
 #!/usr/bin/env python3
 """Packed cases: many case folders in one file, for a program that reads them from standard input.
 
-    pack.py pack [--queries] [--rooms] DIR OUT [NAME..]   packs the case folders of DIR, sorted by name, into OUT/stdin, and joins their
-                                      answers.txt (by `oracle suite --only KINDS DIR`) to OUT/stdout; OUT/names has a name for each case.
-                                      NAME: patterns such as 'd*', all folders where there is none.
-                                      The queries and the rooms have length 0 unless the options ask for them
+    pack.py pack [--queries] [--rooms] [--batch] DIR OUT [NAME..]   packs the case folders of DIR, sorted by name, into OUT/stdin, and joins
+                                      their answers.txt and batch-answer.txt (by `oracle suite --only KINDS DIR`) to OUT/stdout; OUT/names
+                                      has a name for each case. NAME: patterns such as 'd*', all folders where there is none.
+                                      The queries, rooms and batches have length 0 unless the options ask for them
     pack.py limit DIR N [M]           cuts each queries.txt of DIR to its first N queries (gen.py shuffles them), before the oracle answers;
                                       to M where the chart has some 40 vertices or more
     pack.py parts DIR N               the names of DIR's case folders, in lines: answering those of a line takes as long as about N calls on
@@ -13,15 +13,15 @@
     pack.py where OUT BYTE            the case to which a byte of OUT/stdout belongs
     pack.py feed FILE PROGRAM..       runs a program with FILE as its standard input, in pieces of 1 to 99 bytes
 
-A case is a line of three fields of 8 columns, as the first line of a chart, with the lengths of chart.txt, queries.txt and rooms.txt, and
-then the bytes of these three. A file that is missing counts as empty.
+A case is a line of four fields of 8 columns with the lengths of chart.txt, queries.txt, rooms.txt and batch.txt, and then the bytes of these
+four. A file that is missing counts as empty.
 """
 import collections, fnmatch, os, random, re, subprocess, sys
 
 sys.dont_write_bytecode = True  # nothing is left in the source tree
 from second import fields
 
-TEXTS = ('chart.txt', 'queries.txt', 'rooms.txt')
+TEXTS = ('chart.txt', 'queries.txt', 'rooms.txt', 'batch.txt')
 LARGEST = 31465  # bytes of the largest chart
 
 
@@ -51,8 +51,8 @@ def pack(d, out, patterns, texts):
         # expect.txt is by the second implementation: the two must agree before they judge a third
         expect = read(d, name, 'expect.txt').decode().split()
         if expect and expect[0] != verdict(answers): sys.exit('%s: the oracle says %s and gen.py %s' % (name, verdict(answers), expect[0]))
-        stdin += b'%8d%8d%8d\n' % tuple(map(len, parts)) + b''.join(parts)
-        stdout += answers
+        stdin += b'%8d%8d%8d%8d\n' % tuple(map(len, parts)) + b''.join(parts)
+        stdout += answers + (read(d, name, 'batch-answer.txt') if parts[3] else b'')
         packed += name + '\n'
         count[int(verdict(answers))] += 1
     os.makedirs(out, exist_ok=True)
@@ -72,9 +72,11 @@ def limit(d, n, m):
 def parts(d, n):
     line, cost = [], 0.0
     for name in names(d):
-        # a line is by one call, or three for a room; and each call checks its chart, in a time that grows with the square of its length
-        answers = read(d, name, 'answers.txt')
-        c = (answers.count(b'\n') + 2 * answers.count(b'\nroom ')) * (len(read(d, name, 'chart.txt')) / LARGEST) ** 2
+        # a line is by one call, or three for a room, and so is a batch, whose entries take some time too; each call checks its chart, in a
+        # time that grows with the square of its length
+        answers, batches = read(d, name, 'answers.txt'), read(d, name, 'batch-answer.txt')
+        calls = answers.count(b'\n') + 2 * answers.count(b'\nroom ') + batches.count(b'book ') + 0.5 * batches.count(b' ') / 18
+        c = calls * (len(read(d, name, 'chart.txt')) / LARGEST) ** 2
         if line and cost + c > n:
             print(*line)
             line, cost = [], 0.0
@@ -86,9 +88,9 @@ def parts(d, n):
 def unpack(path, d):
     b, at, n = read(path), 0, 0
     while at < len(b):
-        sizes = fields(b[at:at + 25], 3)
+        sizes = fields(b[at:at + 33], 4)
         if sizes is None or min(sizes) < 0: sys.exit('byte %d: no header' % at)
-        at += 25
+        at += 33
         case = os.path.join(d, '%05d' % n)
         os.makedirs(case)
         for t, size in zip(TEXTS, sizes):
@@ -118,7 +120,7 @@ def feed(path, command):
 
 
 if __name__ == '__main__':
-    a = [w for w in sys.argv[1:] if w not in ('--queries', '--rooms')]
+    a = [w for w in sys.argv[1:] if w not in ('--queries', '--rooms', '--batch')]
     if a[:1] == ['pack'] and len(a) > 2:
         pack(a[1], a[2], a[3:], [t for t in TEXTS if t == TEXTS[0] or '--' + t[:-4] in sys.argv])
     elif a[:1] == ['limit'] and len(a) in (3, 4): limit(a[1], int(a[2]), int(a[-1]))

@@ -434,10 +434,20 @@ def bends(b, log):
 
 
 def batch(b, spec):
-    n = list(map(int, spec.split()))
-    s, retired, room = n[:3]
-    wear, cnt, ent = n[3:35:2], n[4:35:2], n[35:]
-    t = Tally(s, retired, wear[:], cnt[:])
+    """A list of batches, each handed the book of the one before."""
+    lines = [list(map(int, l.split())) for l in spec.split('\n')]
+    (s, retired, room), rows, ent = lines[0], lines[1:17], lines[17]
+    t = Tally(s, retired, [w for w, n in rows], [n for w, n in rows])
+    out, at = one_batch(t, b, room, ent), 18
+    while lines[at]:
+        room, cut = lines[at]
+        out += one_batch(t, b[:max(0, len(b) - cut)], room, lines[at + 1])
+        at += 2
+    return out
+
+
+def one_batch(t, b, room, ent):
+    s, retired, wear, cnt = t.s, t.retired, t.wear, t.bends
     if not 1 <= s <= 16 or sum(wear) + retired > FULL or max(cnt) > FULL or any(wear[s:]) or any(cnt[s:]): r = 1
     elif len(ent) % 5 or room < len(ent) // 5: r = 2
     else: r = refusal(b)
@@ -452,7 +462,7 @@ def batch(b, spec):
 def suite(d, first_only=False, only=None):
     cases = lines = 0
     bad = []
-    for name in sorted(os.listdir(d), key=lambda s: ('xgkhldaf'.find(s[0]), s)):
+    for name in sorted(os.listdir(d), key=lambda s: ('xgkhlbdaf'.find(s[0]), s)):
         p = os.path.join(d, name)
         if not os.path.isdir(p): continue
         rd = lambda f: open(os.path.join(p, f), 'rb').read() if os.path.exists(os.path.join(p, f)) else None
@@ -461,7 +471,7 @@ def suite(d, first_only=False, only=None):
         mine = answers(b, list(zip(n[::2], n[1::2])), list(map(int, (rd('rooms.txt') or b'').split())), only)
         todo = [('answers.txt', mine)]
         if rd('log.txt') is not None and only is None: todo.append(('bends.txt', bends(b, rd('log.txt'))))
-        if rd('batch.txt') is not None and only is None: todo.append(('batch-answer.txt', batch(b, rd('batch.txt').decode())))
+        if rd('batch.txt') is not None and (only is None or 'batch' in only): todo.append(('batch-answer.txt', batch(b, rd('batch.txt').decode())))
         for f, m in todo:
             theirs = (rd(f) or b'').decode()
             lines += m.count('\n')

@@ -1,7 +1,7 @@
 -- Laws of the definitions of specs/.
-use Prim.Native.Nat.{ℕ, zero, suc, _+_, _-_, _^_, _<_, _≤_}
-use mathlib.Core.List.{List, [], _++_}
-use mathlib.Core.Bool.{true, false, not, true≢false}
+use Prim.Native.Nat.{ℕ, zero, suc, _+_, _-_, _*_, _^_, _<_, _≤_}
+use mathlib.Core.List.{List, [], _∷_, _++_}
+use mathlib.Core.Bool.{Bool, true, false, not, true≢false}
 use mathlib.Core.Path.{_≡_, refl, ap, sym}
 use native.Mathlib.Omega.{arith}
 use native.Mathlib.Nat.{pow-le-pow-right, zero-add}
@@ -16,11 +16,18 @@ use mir.Syntax.{w64}
 use mir.Val.{SFits}
 use borrow.Author.Tests.{ltb-true, le-ltb, le-leb, lt-leb, eq-eqb, ne-eqb}
 use Rattle.tables.specs.Table.{Cells, lineOf}
+use Rattle.text.specs.Field.{valueOf}
+use Rattle.text.specs.Natural.{figures}
 use Rattle.text.specs.declared.Field.{Field}
 use Rattle.text.specs.declared.Field.the-variants.{Number, Malformed}
+use Rattle.answers.specs.declared.decimal.Natural.{Natural}
+use Rattle.answers.specs.declared.decimal.Natural.the-variants.{Whole, NoNumber}
+use Rattle.answers.specs.declared.batches.Two.the-variants.{Both, NoTwo}
+use Rattle.answers.specs.declared.batches.Opening.the-variants.{NoOpening}
+use Rattle.answers.specs.Batch.{bothOf, twoOf, openingIn, openingOf}
 use Rattle.answers.specs.declared.packed.Header.the-variants.{Broken}
 use Rattle.answers.specs.declared.queries.Query.the-variants.{NoQuery}
-use Rattle.answers.specs.Decimal.{mostDigits, noMagnitude, digitsMake, magnitudeOf, aboveOf, belowOf, decimalOf}
+use Rattle.answers.specs.Decimal.{mostDigits, noMagnitude, digitsMake, magnitudeOf, aboveOf, belowOf, decimalOf, pickNatural, wholeOf, naturalOf}
 use Rattle.answers.specs.Header.{limit, sizeOf, headerLine, headerOf}
 use Rattle.answers.specs.Path.{pathOf}
 use Rattle.answers.specs.Query.{untilOf, pairOf, queryOf}
@@ -51,13 +58,13 @@ pub room-of : (s : List ℕ) → roomOf s ≡ roomIn (decimalOf s)
 unfolding roomOf
 room-of s = refl
 
-pub header-length : (s : List ℕ) → (length s ≡ 25 → ⊥) → headerOf s ≡ Broken
+pub header-length : (s : List ℕ) → (length s ≡ 33 → ⊥) → headerOf s ≡ Broken
 unfolding headerOf
-header-length s h = rw (ne-eqb (length s) 25 h) refl
+header-length s h = rw (ne-eqb (length s) 33 h) refl
 
-pub header-line : (s : List ℕ) (c : Cells) → length s ≡ 25 → lineOf 3 s ≡ c → headerOf s ≡ headerLine c
+pub header-line : (s : List ℕ) (c : Cells) → length s ≡ 33 → lineOf 4 s ≡ c → headerOf s ≡ headerLine c
 unfolding headerOf
-header-line s c h e = rw (eq-eqb (length s) 25 h, e) refl
+header-line s c h e = rw (eq-eqb (length s) 33 h, e) refl
 
 pub path-nameless : (s : List ℕ) (n : ℕ) (f : List ℕ) → n ≡ 0 → pathOf s n f ≡ []
 unfolding pathOf
@@ -122,6 +129,32 @@ pub decimal-none : decimalOf [] ≡ Malformed
 unfolding decimalOf magnitudeOf
 decimal-none = refl
 
+-- More digits make no less.
+pub value-least : (s : List ℕ) (a : ℕ) → a ≤ valueOf a s
+unfolding valueOf
+value-least [] a = omega arith
+value-least (x ∷ s) a = omega (arith, value-least s (a * 10 + (x - 48)))
+
+either-way : (b : Bool) → pickNatural b NoNumber NoNumber ≡ NoNumber
+either-way true = refl
+either-way false = refl
+
+-- More than a u64 holds.
+pub whole-large : (d : List ℕ) → 2 ^ 64 ≤ valueOf 0 d → wholeOf d ≡ NoNumber
+whole-large d h = rw (le-ltb (valueOf 0 d) (2 ^ 64) h) (either-way (figures d))
+
+pub natural-none : (d : List ℕ) → length d ≡ 0 → naturalOf d ≡ NoNumber
+unfolding naturalOf
+natural-none d h = rw (eq-eqb (length d) 0 h) refl
+
+pub natural-some : (d : List ℕ) → (length d ≡ 0 → ⊥) → naturalOf d ≡ wholeOf d
+unfolding naturalOf
+natural-some d h = rw (ne-eqb (length d) 0 h) refl
+
+pub natural-empty : naturalOf [] ≡ NoNumber
+unfolding naturalOf
+natural-empty = refl
+
 -- ---- queries
 
 -- The byte that is looked for.
@@ -155,6 +188,41 @@ query-one s e =
 pub query-two : (s : List ℕ) (n : ℕ) → untilOf 32 s ≡ n → queryOf s ≡ pairOf (decimalOf (take n s)) (decimalOf (drop (n + 1) s))
 unfolding queryOf
 query-two s n e = rw (e, add-one n) refl
+
+-- ---- batches
+
+-- A line with no second number.
+both-broken : (a : Natural) → bothOf a NoNumber ≡ NoTwo
+both-broken (Whole n) = refl
+both-broken NoNumber = refl
+
+pub two-one : (s : List ℕ) → untilOf 32 s ≡ length s → twoOf s ≡ NoTwo
+unfolding twoOf
+two-one s e =
+    let d : drop (suc (length s)) s ≡ [] = drop-of-length-le s {i = suc (length s)} (omega arith) in
+    rw (e, d, natural-empty) (both-broken (naturalOf (take (length s) s)))
+
+pub two-two : (s : List ℕ) (n : ℕ) → untilOf 32 s ≡ n → twoOf s ≡ bothOf (naturalOf (take n s)) (naturalOf (drop (n + 1) s))
+unfolding twoOf
+two-two s n e = rw (e, add-one n) refl
+
+two-empty : twoOf [] ≡ NoTwo
+two-empty = two-one [] (until-none 32)
+
+-- A line with no further numbers.
+opening-broken : (a : Natural) → openingIn a NoTwo ≡ NoOpening
+opening-broken (Whole n) = refl
+opening-broken NoNumber = refl
+
+pub opening-one : (s : List ℕ) → untilOf 32 s ≡ length s → openingOf s ≡ NoOpening
+unfolding openingOf
+opening-one s e =
+    let d : drop (suc (length s)) s ≡ [] = drop-of-length-le s {i = suc (length s)} (omega arith) in
+    rw (e, d, two-empty) (opening-broken (naturalOf (take (length s) s)))
+
+pub opening-more : (s : List ℕ) (n : ℕ) → untilOf 32 s ≡ n → openingOf s ≡ openingIn (naturalOf (take n s)) (twoOf (drop (n + 1) s))
+unfolding openingOf
+opening-more s n e = rw (e, add-one n) refl
 
 -- ---- print
 

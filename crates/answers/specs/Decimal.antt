@@ -1,5 +1,5 @@
 -- A whole number in decimal, as a queries text has it: an optional minus sign and 1 to 19 digits, of a number that an i64 holds.
-use Prim.Native.Nat.{ℕ, _^_, _-_}
+use Prim.Native.Nat.{ℕ, _^_, _-_, _*_, _+_}
 use mathlib.Core.List.{List}
 use mathlib.Core.Bool.{Bool, true, false}
 use lib.ListN.{length, drop, getD}
@@ -9,6 +9,8 @@ use Rattle.text.specs.Field.{pickℕ, pickField, valueOf}
 use Rattle.text.specs.Natural.{figures}
 use Rattle.text.specs.declared.Field.{Field}
 use Rattle.text.specs.declared.Field.the-variants.{Number, Malformed}
+use Rattle.answers.specs.declared.decimal.Natural.{Natural}
+use Rattle.answers.specs.declared.decimal.Natural.the-variants.{Whole, NoNumber}
 
 -- As many digits as any i64 has.
 abbrev pub mostDigits : ℕ
@@ -40,3 +42,19 @@ signedOf false s = aboveOf (magnitudeOf s)
 
 unfoldable pub decimalOf : List ℕ → Field
 decimalOf s = signedOf (eqb (getD s 0 0) 45) s
+
+abbrev pub pickNatural : Bool → Natural → Natural → Natural
+pickNatural true a b = a
+pickNatural false a b = b
+
+-- The number that digits make, where a u64 holds it.
+abbrev pub wholeOf : List ℕ → Natural
+wholeOf d = pickNatural (figures d) (pickNatural (ltb (valueOf 0 d) (2 ^ 64)) (Whole (valueOf 0 d)) NoNumber) NoNumber
+
+-- The number of one digit or more with no sign, where a u64 holds it.
+unfoldable pub naturalOf : List ℕ → Natural
+naturalOf d = pickNatural (eqb (length d) 0) NoNumber (wholeOf d)
+
+-- Whether a u64 holds v and a digit after it.
+abbrev pub follows : ℕ → ℕ → Bool
+follows v f = ltb (v * 10 + f) (2 ^ 64)

@@ -1,3 +1,4 @@
+pub mod Batch
 pub mod Decimal
 pub mod Header
 pub mod Path

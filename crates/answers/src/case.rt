@@ -1,6 +1,7 @@
 // The answers to one case, in the oracle's order.
 ghost use Prim.Native.Nat.{_≤_};
 ghost use lib.ListN.{length};
+use crate::batches;
 use crate::print;
 use crate::queries;
 use crate::queries::Query;
@@ -13,21 +14,30 @@ const CUT: usize = 65536;
 // One more than the vertices of the largest chart.
 const VERTICES: u64 = 129;
 
-// A refused chart has its verdict and its rooms alone.
-pub fn answers(chart: &[u8], text: &[u8], lengths: &[u8]) {
+// A text that is broken ends its case.
+pub fn answers(chart: &[u8], text: &[u8], lengths: &[u8], accounts: &[u8]) {
     let number = estivolh::check(chart);
     print::verdict(number);
     if !rooms::all_rooms(chart, lengths) {
         print::broken_rooms();
         return;
     }
-    if number != 0 {
+    if !loads(chart, number, text) {
+        print::broken_queries();
         return;
     }
-    gradients(chart);
-    if !all_queries(chart, text) {
-        print::broken_queries();
+    if !batches::all_batches(chart, accounts) {
+        print::broken_batch();
     }
+}
+
+// Gradients and queries. Whether all were answered; a refused chart has none.
+fn loads(chart: &[u8], refusal: u64, text: &[u8]) -> bool {
+    if refusal != 0 {
+        return true;
+    }
+    gradients(chart);
+    all_queries(chart, text)
 }
 
 // The gradients of the vertices, up to the first number that is none's.

@@ -7,23 +7,36 @@ ghost use Rattle.io.specs.Counts.{Counts};
 ghost use Rattle.answers.specs.Path.{pathOf};
 use crate::case;
 
-pub fn cases(chart_space: &mut [u8], query_space: &mut [u8], room_space: &mut [u8]) {
+pub fn cases(
+    chart_space: &mut [u8],
+    query_space: &mut [u8],
+    room_space: &mut [u8],
+    batch_space: &mut [u8],
+) {
     let count = os::arg_count();
     let mut i = 1;
     while i < count {
-        folder(i, chart_space, query_space, room_space);
+        folder(i, chart_space, query_space, room_space, batch_space);
         i += 1;
     }
 }
 
-fn folder(i: usize, chart_space: &mut [u8], query_space: &mut [u8], room_space: &mut [u8]) {
+fn folder(
+    i: usize,
+    chart_space: &mut [u8],
+    query_space: &mut [u8],
+    room_space: &mut [u8],
+    batch_space: &mut [u8],
+) {
     let chart = read_text(i, b"/chart.txt", chart_space);
     let queries = read_text(i, b"/queries.txt", query_space);
     let rooms = read_text(i, b"/rooms.txt", room_space);
+    let batches = read_text(i, b"/batch.txt", batch_space);
     case::answers(
         &chart_space[..chart],
         &query_space[..queries],
         &room_space[..rooms],
+        &batch_space[..batches],
     );
 }
 

@@ -1,4 +1,5 @@
-// Packed cases on standard input: for each a header line with the sizes of its chart, queries and rooms, and then these texts.
+// Packed cases on standard input: for each a header line with the sizes of its chart, queries, rooms and batches, and
+// then these texts.
 ghost use mathlib.Core.Path.{_≡_};
 ghost use Prim.Native.Nat.{_≤_, min};
 ghost use Rattle.answers.specs.Header.{sizeOf, sizesOf, headerOf};
@@ -9,31 +10,50 @@ use libc::STDIN_FILENO;
 // The first number that no field of 8 columns holds.
 const LIMIT: usize = 100000000;
 
-// What a header says: the sizes of a case's chart, queries and rooms.
+// What a header says: the sizes of a case's chart, queries, rooms and batches.
 enum Header {
-    Sizes(usize, usize, usize),
+    Sizes(usize, usize, usize, usize),
     Broken,
 }
 
 // A proved loop has to end, and nothing says that the input does. So this one counts its turns down, from a number that no run uses up.
-pub fn cases(chart_space: &mut [u8], query_space: &mut [u8], room_space: &mut [u8]) {
+pub fn cases(
+    chart_space: &mut [u8],
+    query_space: &mut [u8],
+    room_space: &mut [u8],
+    batch_space: &mut [u8],
+) {
     let mut turns = u64::MAX;
-    while turns > 0 && next_case(chart_space, query_space, room_space) {
+    while turns > 0 && next_case(chart_space, query_space, room_space, batch_space) {
         turns -= 1;
     }
 }
 
 // Answers the next case. Whether to go on.
-fn next_case(chart_space: &mut [u8], query_space: &mut [u8], room_space: &mut [u8]) -> bool {
-    let mut line = [0u8; 25];
+fn next_case(
+    chart_space: &mut [u8],
+    query_space: &mut [u8],
+    room_space: &mut [u8],
+    batch_space: &mut [u8],
+) -> bool {
+    let mut line = [0u8; 33];
     let n = io::read_full(STDIN_FILENO, &mut line);
     if n == 0 {
         return false;
     }
     let header = read_header(&line[..n]);
     match header {
-        Header::Sizes(chart, queries, rooms) => {
-            if answer(chart_space, query_space, room_space, chart, queries, rooms) {
+        Header::Sizes(chart, queries, rooms, batches) => {
+            if answer(
+                chart_space,
+                query_space,
+                room_space,
+                batch_space,
+                chart,
+                queries,
+                rooms,
+                batches,
+            ) {
                 return true;
             }
             print::broken_case();
@@ -49,17 +69,18 @@ fn next_case(chart_space: &mut [u8], query_space: &mut [u8], room_space: &mut [u
 fn read_header(line: &[u8]) -> Header
     ensures { λ r. ⌜ r ≡ headerOf (now (line .entry)) ⌝ }
 {
-    if line.len() != 25 {
+    if line.len() != 33 {
         return Header::Broken;
     }
-    let mut row = [0i64; 3];
+    let mut row = [0i64; 4];
     if !tables::line(line, 0, &mut row) {
         return Header::Broken;
     }
     let chart = size(row[0]);
     let queries = size(row[1]);
     let rooms = size(row[2]);
-    sizes(chart, queries, rooms)
+    let batches = size(row[3]);
+    sizes(chart, queries, rooms, batches)
 }
 
 fn size(z: i64) -> usize
@@ -71,8 +92,8 @@ fn size(z: i64) -> usize
     z as usize
 }
 
-fn sizes(chart: usize, queries: usize, rooms: usize) -> Header
-    ensures { λ r. ⌜ r ≡ sizesOf chart queries rooms ⌝ }
+fn sizes(chart: usize, queries: usize, rooms: usize, batches: usize) -> Header
+    ensures { λ r. ⌜ r ≡ sizesOf chart queries rooms batches ⌝ }
 {
     if LIMIT <= chart {
         return Header::Broken;
@@ -83,7 +104,10 @@ fn sizes(chart: usize, queries: usize, rooms: usize) -> Header
     if LIMIT <= rooms {
         return Header::Broken;
     }
-    Header::Sizes(chart, queries, rooms)
+    if LIMIT <= batches {
+        return Header::Broken;
+    }
+    Header::Sizes(chart, queries, rooms, batches)
 }
 
 // Answers a case of texts of these sizes, if all their bytes are there.
@@ -91,9 +115,11 @@ fn answer(
     chart_space: &mut [u8],
     query_space: &mut [u8],
     room_space: &mut [u8],
+    batch_space: &mut [u8],
     chart: usize,
     queries: usize,
     rooms: usize,
+    batches: usize,
 ) -> bool {
     if !read_text(chart_space, chart) {
         return false;
@@ -104,10 +130,19 @@ fn answer(
     if !read_text(room_space, rooms) {
         return false;
     }
+    if !read_text(batch_space, batches) {
+        return false;
+    }
     let c = least(chart, chart_space.len());
     let q = least(queries, query_space.len());
     let r = least(rooms, room_space.len());
-    case::answers(&chart_space[..c], &query_space[..q], &room_space[..r]);
+    let b = least(batches, batch_space.len());
+    case::answers(
+        &chart_space[..c],
+        &query_space[..q],
+        &room_space[..r],
+        &batch_space[..b],
+    );
     true
 }
 

@@ -1,6 +1,7 @@
 // The lines of the answers: a function for each kind.
 ghost use mathlib.Core.Path.{_≡_};
 ghost use lib.IntN.{natAbs};
+use book::Book;
 use charge::Charged;
 use estivolh::NaturalNeighbors;
 use estivolh::PositionInTriangulation;
@@ -136,6 +137,36 @@ fn charged(cost: Charged) {
     }
 }
 
+// The refusal of a batch, or the answers to its entries.
+pub fn batch(refusal: u64, answers: &[u64], entries: usize) {
+    if refusal == 0 {
+        word(b"answers");
+        numbers(answers, entries);
+        word(b"\n");
+    } else {
+        ending(b"refused ", refusal);
+    }
+}
+
+pub fn book(book: Book) {
+    word(b"book ");
+    natural(book.sections);
+    ending(b" ", book.retired);
+    let wear = book.wear;
+    let bends = book.bends;
+    columns(&wear, &bends);
+}
+
+// A line for each section's wear and bends.
+fn columns(wear: &[u64], bends: &[u64]) {
+    let mut i = 0;
+    while i < wear.len() && i < bends.len() {
+        natural(wear[i]);
+        ending(b" ", bends[i]);
+        i += 1;
+    }
+}
+
 // What takes the place of answers where the packed input cannot be followed any further.
 pub fn broken_header() {
     word(b"broken header\n");
@@ -153,6 +184,11 @@ pub fn broken_queries() {
 // What takes the place of the answers after a room that is malformed.
 pub fn broken_rooms() {
     word(b"broken rooms\n");
+}
+
+// What takes the place of the answers to a batch that is malformed, and to those after it.
+pub fn broken_batch() {
+    word(b"broken batch\n");
 }
 
 fn word(text: &[u8]) {

@@ -7,16 +7,16 @@ use Rattle.answers.proofs.folder.cases.Statement.{statement}
 use Rattle.answers.proofs.folder.cases.Tie as tie
 
 abbrev Inv-loop : tie.InvT-loop
-Inv-loop charts₀ queries₀ rooms₀ count i₀ charts queries rooms i = (length charts ≡ length charts₀) × (length queries ≡ length queries₀) × (length rooms ≡ length rooms₀)
+Inv-loop charts₀ queries₀ rooms₀ batches₀ count i₀ charts queries rooms batches i = (length charts ≡ length charts₀) × (length queries ≡ length queries₀) × (length rooms ≡ length rooms₀) × (length batches ≡ length batches₀)
 
 abbrev μ-loop : tie.MeasureT-loop
-μ-loop charts₀ queries₀ rooms₀ count i₀ charts queries rooms i = count - i
+μ-loop charts₀ queries₀ rooms₀ batches₀ count i₀ charts queries rooms batches i = count - i
 
 arg-count-requires : tie.Need-arg-count-requires Inv-loop μ-loop
 arg-count-requires c κs = tt
 
 loop-holds : tie.Need-loop-holds Inv-loop μ-loop
-loop-holds c = (refl, refl, refl)
+loop-holds c = (refl, refl, refl, refl)
 
 folder-requires : tie.Need-folder-requires Inv-loop μ-loop
 folder-requires c κs = tt
@@ -39,6 +39,9 @@ same-length-2 c = search needs
 same-length-3 : tie.Need-same-length-3 Inv-loop μ-loop
 same-length-3 c = search needs
 
+same-length-4 : tie.Need-same-length-4 Inv-loop μ-loop
+same-length-4 c = search needs
+
 returns : tie.Need-returns Inv-loop μ-loop
 returns c = tt
 
@@ -57,4 +60,5 @@ cases-spec =
     same-length
     same-length-2
     same-length-3
+    same-length-4
     returns)

@@ -41,6 +41,24 @@ same-length-6 c = search needs
 returns-3 : tie.Need-returns-3
 returns-3 c = search needs
 
+read-text-requires-4 : tie.Need-read-text-requires-4
+read-text-requires-4 c κs = search needs
+
+same-length-7 : tie.Need-same-length-7
+same-length-7 c = search needs
+
+same-length-8 : tie.Need-same-length-8
+same-length-8 c = search needs
+
+same-length-9 : tie.Need-same-length-9
+same-length-9 c = search needs
+
+same-length-10 : tie.Need-same-length-10
+same-length-10 c = search needs
+
+returns-4 : tie.Need-returns-4
+returns-4 c = search needs
+
 least-requires : tie.Need-least-requires
 least-requires c κs = search needs
 
@@ -49,6 +67,9 @@ least-requires-2 c κs = search needs
 
 least-requires-3 : tie.Need-least-requires-3
 least-requires-3 c κs = search needs
+
+least-requires-4 : tie.Need-least-requires-4
+least-requires-4 c κs = search needs
 
 slice-reshare-prefix-answers : tie.Need-slice-reshare-prefix-answers
 slice-reshare-prefix-answers c = search needs
@@ -68,20 +89,29 @@ slice-reshare-prefix-answers-3 c = search needs
 slice-aggregate-answers-3 : tie.Need-slice-aggregate-answers-3
 slice-aggregate-answers-3 c = simp length-take (omega arith)
 
+slice-reshare-prefix-answers-4 : tie.Need-slice-reshare-prefix-answers-4
+slice-reshare-prefix-answers-4 c = search needs
+
+slice-aggregate-answers-4 : tie.Need-slice-aggregate-answers-4
+slice-aggregate-answers-4 c = simp length-take (omega arith)
+
 answers-requires : tie.Need-answers-requires
 answers-requires c κs = search needs
 
-same-length-7 : tie.Need-same-length-7
-same-length-7 c = search needs
+same-length-11 : tie.Need-same-length-11
+same-length-11 c = search needs
 
-same-length-8 : tie.Need-same-length-8
-same-length-8 c = search needs
+same-length-12 : tie.Need-same-length-12
+same-length-12 c = search needs
 
-same-length-9 : tie.Need-same-length-9
-same-length-9 c = search needs
+same-length-13 : tie.Need-same-length-13
+same-length-13 c = search needs
 
-returns-4 : tie.Need-returns-4
-returns-4 c = search needs
+same-length-14 : tie.Need-same-length-14
+same-length-14 c = search needs
+
+returns-5 : tie.Need-returns-5
+returns-5 c = search needs
 
 pub answer-spec : {M : Type 1} → statement M
 answer-spec =
@@ -99,17 +129,27 @@ answer-spec =
     same-length-5
     same-length-6
     returns-3
+    read-text-requires-4
+    same-length-7
+    same-length-8
+    same-length-9
+    same-length-10
+    returns-4
     least-requires
     least-requires-2
     least-requires-3
+    least-requires-4
     slice-reshare-prefix-answers
     slice-aggregate-answers
     slice-reshare-prefix-answers-2
     slice-aggregate-answers-2
     slice-reshare-prefix-answers-3
     slice-aggregate-answers-3
+    slice-reshare-prefix-answers-4
+    slice-aggregate-answers-4
     answers-requires
-    same-length-7
-    same-length-8
-    same-length-9
-    returns-4)
+    same-length-11
+    same-length-12
+    same-length-13
+    same-length-14
+    returns-5)
