@@ -58,13 +58,13 @@ pub room-of : (s : List ℕ) → roomOf s ≡ roomIn (decimalOf s)
 unfolding roomOf
 room-of s = refl
 
-pub header-length : (s : List ℕ) → (length s ≡ 33 → ⊥) → headerOf s ≡ Broken
+pub header-length : (s : List ℕ) → (length s ≡ 41 → ⊥) → headerOf s ≡ Broken
 unfolding headerOf
-header-length s h = rw (ne-eqb (length s) 33 h) refl
+header-length s h = rw (ne-eqb (length s) 41 h) refl
 
-pub header-line : (s : List ℕ) (c : Cells) → length s ≡ 33 → lineOf 4 s ≡ c → headerOf s ≡ headerLine c
+pub header-line : (s : List ℕ) (c : Cells) → length s ≡ 41 → lineOf 5 s ≡ c → headerOf s ≡ headerLine c
 unfolding headerOf
-header-line s c h e = rw (eq-eqb (length s) 33 h, e) refl
+header-line s c h e = rw (eq-eqb (length s) 41 h, e) refl
 
 pub path-nameless : (s : List ℕ) (n : ℕ) (f : List ℕ) → n ≡ 0 → pathOf s n f ≡ []
 unfolding pathOf

@@ -1,4 +1,4 @@
--- The header line of a packed case (oracle/README.md): four fields of 8 columns and the line end, the sizes of the case's texts.
+-- The header line of a packed case (oracle/README.md): five fields of 8 columns and the line end, the sizes of the case's texts.
 use Prim.Native.Nat.{ℕ}
 use mathlib.Core.List.{List}
 use mathlib.Core.Bool.{Bool, true, false}
@@ -23,12 +23,15 @@ abbrev pub pickHeader : Bool → Header → Header → Header
 pickHeader true a b = a
 pickHeader false a b = b
 
-abbrev pub sizesOf : ℕ → ℕ → ℕ → ℕ → Header
-sizesOf c q r b = pickHeader (ltb c limit) (pickHeader (ltb q limit) (pickHeader (ltb r limit) (pickHeader (ltb b limit) (Sizes c q r b) Broken) Broken) Broken) Broken
+abbrev pub sizesOf : ℕ → ℕ → ℕ → ℕ → ℕ → Header
+sizesOf c q r b l =
+    pickHeader (ltb c limit)
+    (pickHeader (ltb q limit) (pickHeader (ltb r limit) (pickHeader (ltb b limit) (pickHeader (ltb l limit) (Sizes c q r b l) Broken) Broken) Broken) Broken)
+    Broken
 
 abbrev pub headerLine : Cells → Header
-headerLine (cells l) = sizesOf (sizeOf (getD l 0 (pos 0))) (sizeOf (getD l 1 (pos 0))) (sizeOf (getD l 2 (pos 0))) (sizeOf (getD l 3 (pos 0)))
+headerLine (cells l) = sizesOf (sizeOf (getD l 0 (pos 0))) (sizeOf (getD l 1 (pos 0))) (sizeOf (getD l 2 (pos 0))) (sizeOf (getD l 3 (pos 0))) (sizeOf (getD l 4 (pos 0)))
 headerLine bad = Broken
 
 unfoldable pub headerOf : List ℕ → Header
-headerOf s = pickHeader (eqb (length s) 33) (headerLine (lineOf 4 s)) Broken
+headerOf s = pickHeader (eqb (length s) 41) (headerLine (lineOf 5 s)) Broken

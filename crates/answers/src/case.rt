@@ -8,14 +8,14 @@ use crate::queries::Query;
 use crate::rooms;
 use estivolh::EstimatedGradient;
 
-// So many bytes fill the buffer of a queries text: it was cut there, or may have been.
+// So many bytes fill the buffer of the queries or of the log: the text was cut there, or may have been.
 const CUT: usize = 65536;
 
 // One more than the vertices of the largest chart.
 const VERTICES: u64 = 129;
 
 // A text that is broken ends its case.
-pub fn answers(chart: &[u8], text: &[u8], lengths: &[u8], accounts: &[u8]) {
+pub fn answers(chart: &[u8], text: &[u8], lengths: &[u8], accounts: &[u8], log: &[u8]) {
     let number = estivolh::check(chart);
     print::verdict(number);
     if !rooms::all_rooms(chart, lengths) {
@@ -28,7 +28,25 @@ pub fn answers(chart: &[u8], text: &[u8], lengths: &[u8], accounts: &[u8]) {
     }
     if !batches::all_batches(chart, accounts) {
         print::broken_batch();
+        return;
     }
+    if !run(chart, log) {
+        print::broken_log();
+    }
+}
+
+// What 01's program prints for a log that is not empty. Whether all of it is there.
+fn run(chart: &[u8], log: &[u8]) -> bool {
+    if log.len() == 0 {
+        return true;
+    }
+    if CUT <= log.len() {
+        return false;
+    }
+    let mut out = io::large_buffer();
+    let n = program::print(chart, log.len(), log, &mut out);
+    print::word(&out[..n]);
+    true
 }
 
 // Gradients and queries. Whether all were answered; a refused chart has none.

@@ -14,12 +14,14 @@ fn main() {
     let mut query_space = io::large_buffer();
     let mut room_space = io::buffer();
     let mut batch_space = io::large_buffer();
+    let mut log_space = io::large_buffer();
     if os::arg_count() < 2 {
         packed::cases(
             &mut chart_space,
             &mut query_space,
             &mut room_space,
             &mut batch_space,
+            &mut log_space,
         );
     } else {
         folder::cases(
@@ -27,6 +29,7 @@ fn main() {
             &mut query_space,
             &mut room_space,
             &mut batch_space,
+            &mut log_space,
         );
     }
 }

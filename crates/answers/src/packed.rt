@@ -1,5 +1,5 @@
-// Packed cases on standard input: for each a header line with the sizes of its chart, queries, rooms and batches, and
-// then these texts.
+// Packed cases on standard input: for each a header line with the sizes of its chart, queries, rooms, batches and
+// log, and then these texts.
 ghost use mathlib.Core.Path.{_≡_};
 ghost use Prim.Native.Nat.{_≤_, min};
 ghost use Rattle.answers.specs.Header.{sizeOf, sizesOf, headerOf};
@@ -10,9 +10,9 @@ use libc::STDIN_FILENO;
 // The first number that no field of 8 columns holds.
 const LIMIT: usize = 100000000;
 
-// What a header says: the sizes of a case's chart, queries, rooms and batches.
+// What a header says: the sizes of a case's chart, queries, rooms, batches and log.
 enum Header {
-    Sizes(usize, usize, usize, usize),
+    Sizes(usize, usize, usize, usize, usize),
     Broken,
 }
 
@@ -22,9 +22,10 @@ pub fn cases(
     query_space: &mut [u8],
     room_space: &mut [u8],
     batch_space: &mut [u8],
+    log_space: &mut [u8],
 ) {
     let mut turns = u64::MAX;
-    while turns > 0 && next_case(chart_space, query_space, room_space, batch_space) {
+    while turns > 0 && next_case(chart_space, query_space, room_space, batch_space, log_space) {
         turns -= 1;
     }
 }
@@ -35,24 +36,27 @@ fn next_case(
     query_space: &mut [u8],
     room_space: &mut [u8],
     batch_space: &mut [u8],
+    log_space: &mut [u8],
 ) -> bool {
-    let mut line = [0u8; 33];
+    let mut line = [0u8; 41];
     let n = io::read_full(STDIN_FILENO, &mut line);
     if n == 0 {
         return false;
     }
     let header = read_header(&line[..n]);
     match header {
-        Header::Sizes(chart, queries, rooms, batches) => {
+        Header::Sizes(chart, queries, rooms, batches, log) => {
             if answer(
                 chart_space,
                 query_space,
                 room_space,
                 batch_space,
+                log_space,
                 chart,
                 queries,
                 rooms,
                 batches,
+                log,
             ) {
                 return true;
             }
@@ -69,10 +73,10 @@ fn next_case(
 fn read_header(line: &[u8]) -> Header
     ensures { λ r. ⌜ r ≡ headerOf (now (line .entry)) ⌝ }
 {
-    if line.len() != 33 {
+    if line.len() != 41 {
         return Header::Broken;
     }
-    let mut row = [0i64; 4];
+    let mut row = [0i64; 5];
     if !tables::line(line, 0, &mut row) {
         return Header::Broken;
     }
@@ -80,7 +84,8 @@ fn read_header(line: &[u8]) -> Header
     let queries = size(row[1]);
     let rooms = size(row[2]);
     let batches = size(row[3]);
-    sizes(chart, queries, rooms, batches)
+    let log = size(row[4]);
+    sizes(chart, queries, rooms, batches, log)
 }
 
 fn size(z: i64) -> usize
@@ -92,8 +97,8 @@ fn size(z: i64) -> usize
     z as usize
 }
 
-fn sizes(chart: usize, queries: usize, rooms: usize, batches: usize) -> Header
-    ensures { λ r. ⌜ r ≡ sizesOf chart queries rooms batches ⌝ }
+fn sizes(chart: usize, queries: usize, rooms: usize, batches: usize, log: usize) -> Header
+    ensures { λ r. ⌜ r ≡ sizesOf chart queries rooms batches log ⌝ }
 {
     if LIMIT <= chart {
         return Header::Broken;
@@ -107,7 +112,10 @@ fn sizes(chart: usize, queries: usize, rooms: usize, batches: usize) -> Header
     if LIMIT <= batches {
         return Header::Broken;
     }
-    Header::Sizes(chart, queries, rooms, batches)
+    if LIMIT <= log {
+        return Header::Broken;
+    }
+    Header::Sizes(chart, queries, rooms, batches, log)
 }
 
 // Answers a case of texts of these sizes, if all their bytes are there.
@@ -116,10 +124,12 @@ fn answer(
     query_space: &mut [u8],
     room_space: &mut [u8],
     batch_space: &mut [u8],
+    log_space: &mut [u8],
     chart: usize,
     queries: usize,
     rooms: usize,
     batches: usize,
+    log: usize,
 ) -> bool {
     if !read_text(chart_space, chart) {
         return false;
@@ -133,15 +143,20 @@ fn answer(
     if !read_text(batch_space, batches) {
         return false;
     }
+    if !read_text(log_space, log) {
+        return false;
+    }
     let c = least(chart, chart_space.len());
     let q = least(queries, query_space.len());
     let r = least(rooms, room_space.len());
     let b = least(batches, batch_space.len());
+    let l = least(log, log_space.len());
     case::answers(
         &chart_space[..c],
         &query_space[..q],
         &room_space[..r],
         &batch_space[..b],
+        &log_space[..l],
     );
     true
 }

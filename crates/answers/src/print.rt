@@ -191,7 +191,11 @@ pub fn broken_batch() {
     word(b"broken batch\n");
 }
 
-fn word(text: &[u8]) {
+pub fn broken_log() {
+    word(b"broken log\n");
+}
+
+pub fn word(text: &[u8]) {
     io::write_all(STDOUT_FILENO, text);
 }
 

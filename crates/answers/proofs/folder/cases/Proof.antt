@@ -7,16 +7,16 @@ use Rattle.answers.proofs.folder.cases.Statement.{statement}
 use Rattle.answers.proofs.folder.cases.Tie as tie
 
 abbrev Inv-loop : tie.InvT-loop
-Inv-loop charts₀ queries₀ rooms₀ batches₀ count i₀ charts queries rooms batches i = (length charts ≡ length charts₀) × (length queries ≡ length queries₀) × (length rooms ≡ length rooms₀) × (length batches ≡ length batches₀)
+Inv-loop charts₀ queries₀ rooms₀ batches₀ logs₀ count i₀ charts queries rooms batches logs i = (length charts ≡ length charts₀) × (length queries ≡ length queries₀) × (length rooms ≡ length rooms₀) × (length batches ≡ length batches₀) × (length logs ≡ length logs₀)
 
 abbrev μ-loop : tie.MeasureT-loop
-μ-loop charts₀ queries₀ rooms₀ batches₀ count i₀ charts queries rooms batches i = count - i
+μ-loop charts₀ queries₀ rooms₀ batches₀ logs₀ count i₀ charts queries rooms batches logs i = count - i
 
 arg-count-requires : tie.Need-arg-count-requires Inv-loop μ-loop
 arg-count-requires c κs = tt
 
 loop-holds : tie.Need-loop-holds Inv-loop μ-loop
-loop-holds c = (refl, refl, refl, refl)
+loop-holds c = (refl, refl, refl, refl, refl)
 
 folder-requires : tie.Need-folder-requires Inv-loop μ-loop
 folder-requires c κs = tt
@@ -42,6 +42,9 @@ same-length-3 c = search needs
 same-length-4 : tie.Need-same-length-4 Inv-loop μ-loop
 same-length-4 c = search needs
 
+same-length-5 : tie.Need-same-length-5 Inv-loop μ-loop
+same-length-5 c = search needs
+
 returns : tie.Need-returns Inv-loop μ-loop
 returns c = tt
 
@@ -61,4 +64,5 @@ cases-spec =
     same-length-2
     same-length-3
     same-length-4
+    same-length-5
     returns)

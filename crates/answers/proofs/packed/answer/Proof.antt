@@ -59,6 +59,27 @@ same-length-10 c = search needs
 returns-4 : tie.Need-returns-4
 returns-4 c = search needs
 
+read-text-requires-5 : tie.Need-read-text-requires-5
+read-text-requires-5 c κs = search needs
+
+same-length-11 : tie.Need-same-length-11
+same-length-11 c = search needs
+
+same-length-12 : tie.Need-same-length-12
+same-length-12 c = search needs
+
+same-length-13 : tie.Need-same-length-13
+same-length-13 c = search needs
+
+same-length-14 : tie.Need-same-length-14
+same-length-14 c = search needs
+
+same-length-15 : tie.Need-same-length-15
+same-length-15 c = search needs
+
+returns-5 : tie.Need-returns-5
+returns-5 c = search needs
+
 least-requires : tie.Need-least-requires
 least-requires c κs = search needs
 
@@ -70,6 +91,9 @@ least-requires-3 c κs = search needs
 
 least-requires-4 : tie.Need-least-requires-4
 least-requires-4 c κs = search needs
+
+least-requires-5 : tie.Need-least-requires-5
+least-requires-5 c κs = search needs
 
 slice-reshare-prefix-answers : tie.Need-slice-reshare-prefix-answers
 slice-reshare-prefix-answers c = search needs
@@ -95,23 +119,32 @@ slice-reshare-prefix-answers-4 c = search needs
 slice-aggregate-answers-4 : tie.Need-slice-aggregate-answers-4
 slice-aggregate-answers-4 c = simp length-take (omega arith)
 
+slice-reshare-prefix-answers-5 : tie.Need-slice-reshare-prefix-answers-5
+slice-reshare-prefix-answers-5 c = search needs
+
+slice-aggregate-answers-5 : tie.Need-slice-aggregate-answers-5
+slice-aggregate-answers-5 c = simp length-take (omega arith)
+
 answers-requires : tie.Need-answers-requires
 answers-requires c κs = search needs
 
-same-length-11 : tie.Need-same-length-11
-same-length-11 c = search needs
+same-length-16 : tie.Need-same-length-16
+same-length-16 c = search needs
 
-same-length-12 : tie.Need-same-length-12
-same-length-12 c = search needs
+same-length-17 : tie.Need-same-length-17
+same-length-17 c = search needs
 
-same-length-13 : tie.Need-same-length-13
-same-length-13 c = search needs
+same-length-18 : tie.Need-same-length-18
+same-length-18 c = search needs
 
-same-length-14 : tie.Need-same-length-14
-same-length-14 c = search needs
+same-length-19 : tie.Need-same-length-19
+same-length-19 c = search needs
 
-returns-5 : tie.Need-returns-5
-returns-5 c = search needs
+same-length-20 : tie.Need-same-length-20
+same-length-20 c = search needs
+
+returns-6 : tie.Need-returns-6
+returns-6 c = search needs
 
 pub answer-spec : {M : Type 1} → statement M
 answer-spec =
@@ -135,10 +168,18 @@ answer-spec =
     same-length-9
     same-length-10
     returns-4
+    read-text-requires-5
+    same-length-11
+    same-length-12
+    same-length-13
+    same-length-14
+    same-length-15
+    returns-5
     least-requires
     least-requires-2
     least-requires-3
     least-requires-4
+    least-requires-5
     slice-reshare-prefix-answers
     slice-aggregate-answers
     slice-reshare-prefix-answers-2
@@ -147,9 +188,12 @@ answer-spec =
     slice-aggregate-answers-3
     slice-reshare-prefix-answers-4
     slice-aggregate-answers-4
+    slice-reshare-prefix-answers-5
+    slice-aggregate-answers-5
     answers-requires
-    same-length-11
-    same-length-12
-    same-length-13
-    same-length-14
-    returns-5)
+    same-length-16
+    same-length-17
+    same-length-18
+    same-length-19
+    same-length-20
+    returns-6)

@@ -1,4 +1,4 @@
--- `packed::read_header` meets its contract: the line is short or malformed, or its four numbers are told on.
+-- `packed::read_header` meets its contract: the line is short or malformed, or its five numbers are told on.
 use mathlib.Core.Path.{_≡_, ap, sym, _∙_}
 use mathlib.Core.Bool.{Bool}
 use lib.ListN.{getD}
@@ -53,24 +53,32 @@ array-copy-out-size-4 c = search needs
 size-requires-4 : tie.Need-size-requires-4
 size-requires-4 c κs = search needs
 
+array-copy-out-size-5 : tie.Need-array-copy-out-size-5
+array-copy-out-size-5 c = search needs
+
+size-requires-5 : tie.Need-size-requires-5
+size-requires-5 c κs = search needs
+
 sizes-requires : tie.Need-sizes-requires
 sizes-requires c κs = search needs
 
 returns-3 : tie.Need-returns-3
 returns-3 c =
-    let s = c .before .before .before .before .before .before .before .before .before .before .before .before .before .before .before .args .line .now in
-    let l = c .before .before .before .before .before .before .before .before .before .before .before .line in
+    let s = c .before .before .before .before .before .before .before .before .before .before .before .before .before .before .before .before .before .args .line .now in
+    let l = c .before .before .before .before .before .before .before .before .before .before .before .before .before .line in
     let row = l .last .1 .1 .0 in
-    let q = header-line s (cells row) (c .before .before .before .before .before .before .before .before .before .before .before .before .before .if1 .left) (l .ensures ∙ ap (λ (b : Bool). given b row) (not-false (l .result) (c .before .before .before .before .before .before .before .before .before .if2 .left))) in
-    let x = c .before .before .before .before .before .before .before .size in
-    let y = c .before .before .before .before .before .size2 in
-    let z = c .before .before .before .size3 in
-    let w = c .before .size4 in
-    let p : x .result ≡ sizeOf (getD row 0 (pos 0)) = x .ensures ∙ ap sizeOf (toZ-ofZ {w = w64} {z = getD row 0 (pos 0)} (record { sfits = c .before .before .before .before .before .before .before .before .size-arg .given })) in
-    let r : y .result ≡ sizeOf (getD row 1 (pos 0)) = y .ensures ∙ ap sizeOf (toZ-ofZ {w = w64} {z = getD row 1 (pos 0)} (record { sfits = c .before .before .before .before .before .before .size-arg2 .given })) in
-    let t : z .result ≡ sizeOf (getD row 2 (pos 0)) = z .ensures ∙ ap sizeOf (toZ-ofZ {w = w64} {z = getD row 2 (pos 0)} (record { sfits = c .before .before .before .before .size-arg3 .given })) in
-    let u : w .result ≡ sizeOf (getD row 3 (pos 0)) = w .ensures ∙ ap sizeOf (toZ-ofZ {w = w64} {z = getD row 3 (pos 0)} (record { sfits = c .before .before .size-arg4 .given })) in
-    c .sizes .ensures ∙ rw (p, r, t, u) (sym q)
+    let q = header-line s (cells row) (c .before .before .before .before .before .before .before .before .before .before .before .before .before .before .before .if1 .left) (l .ensures ∙ ap (λ (b : Bool). given b row) (not-false (l .result) (c .before .before .before .before .before .before .before .before .before .before .before .if2 .left))) in
+    let x = c .before .before .before .before .before .before .before .before .before .size in
+    let y = c .before .before .before .before .before .before .before .size2 in
+    let z = c .before .before .before .before .before .size3 in
+    let w = c .before .before .before .size4 in
+    let p : x .result ≡ sizeOf (getD row 0 (pos 0)) = x .ensures ∙ ap sizeOf (toZ-ofZ {w = w64} {z = getD row 0 (pos 0)} (record { sfits = c .before .before .before .before .before .before .before .before .before .before .size-arg .given })) in
+    let r : y .result ≡ sizeOf (getD row 1 (pos 0)) = y .ensures ∙ ap sizeOf (toZ-ofZ {w = w64} {z = getD row 1 (pos 0)} (record { sfits = c .before .before .before .before .before .before .before .before .size-arg2 .given })) in
+    let t : z .result ≡ sizeOf (getD row 2 (pos 0)) = z .ensures ∙ ap sizeOf (toZ-ofZ {w = w64} {z = getD row 2 (pos 0)} (record { sfits = c .before .before .before .before .before .before .size-arg3 .given })) in
+    let u : w .result ≡ sizeOf (getD row 3 (pos 0)) = w .ensures ∙ ap sizeOf (toZ-ofZ {w = w64} {z = getD row 3 (pos 0)} (record { sfits = c .before .before .before .before .size-arg4 .given })) in
+    let v = c .before .size5 in
+    let k : v .result ≡ sizeOf (getD row 4 (pos 0)) = v .ensures ∙ ap sizeOf (toZ-ofZ {w = w64} {z = getD row 4 (pos 0)} (record { sfits = c .before .before .size-arg5 .given })) in
+    c .sizes .ensures ∙ rw (p, r, t, u, k) (sym q)
 
 pub read-header-spec : {M : Type 1} → statement M
 read-header-spec =
@@ -88,5 +96,7 @@ read-header-spec =
     size-requires-3
     array-copy-out-size-4
     size-requires-4
+    array-copy-out-size-5
+    size-requires-5
     sizes-requires
     returns-3)
