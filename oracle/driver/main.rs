@@ -12,7 +12,7 @@ mod chart;
 use chart::Chart;
 
 /// The kinds of lines that a case's answers have.
-const KINDS: [&str; 10] = ["verdict", "room", "gradient", "query", "location", "barycentric", "edges", "natural", "value", "batch"];
+const KINDS: [&str; 11] = ["verdict", "room", "gradient", "query", "location", "barycentric", "edges", "natural", "value", "batch", "log"];
 /// Those that each query has.
 const QUERY: [&str; 6] = ["query", "location", "barycentric", "edges", "natural", "value"];
 
@@ -477,7 +477,7 @@ fn main() {
                 let c = std::fs::read(d.join("chart.txt")).unwrap_or_default();
                 let (s, n) = answers(&c, &queries(&d.join("queries.txt")), &numbers(&d.join("rooms.txt")), &only);
                 std::fs::write(d.join("answers.txt"), s).unwrap();
-                if let (true, Ok(l)) = (only.all(), std::fs::read(d.join("log.txt"))) {
+                if let (true, Ok(l)) = (only.has("log"), std::fs::read(d.join("log.txt"))) {
                     std::fs::write(d.join("bends.txt"), bends(&c, &l)).unwrap();
                 }
                 if let (true, Ok(l)) = (only.has("batch"), std::fs::read_to_string(d.join("batch.txt"))) {

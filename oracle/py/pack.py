@@ -1,28 +1,25 @@
 #!/usr/bin/env python3
 """Packed cases: many case folders in one file, for a program that reads them from standard input.
 
-    pack.py pack [--queries] [--rooms] [--batch] DIR OUT [NAME..]   packs the case folders of DIR, sorted by name, into OUT/stdin, and joins
-                                      their answers.txt and batch-answer.txt (by `oracle suite --only KINDS DIR`) to OUT/stdout; OUT/names
-                                      has a name for each case. NAME: patterns such as 'd*', all folders where there is none.
-                                      The queries, rooms and batches have length 0 unless the options ask for them
+    pack.py pack [--queries] [--rooms] [--batch] [--log] DIR OUT [NAME..]   packs the case folders of DIR, sorted by name, into OUT/stdin, and joins
+                                      their answers.txt, batch-answer.txt and bends.txt (by `oracle suite --only KINDS DIR`) to OUT/stdout;
+                                      OUT/names has a name for each case. NAME: patterns such as 'd*', all folders where there is none.
+                                      The queries, rooms, batches and logs have length 0 unless the options ask for them
     pack.py limit DIR N [M]           cuts each queries.txt of DIR to its first N queries (gen.py shuffles them), before the oracle answers;
                                       to M where the chart has some 40 vertices or more
-    pack.py parts DIR N               the names of DIR's case folders, in lines: answering those of a line takes as long as about N calls on
-                                      the largest chart, or is one case
     pack.py unpack FILE DIR           the cases of a packed file as case folders 00000, 00001, .. of DIR
     pack.py where OUT BYTE            the case to which a byte of OUT/stdout belongs
     pack.py feed FILE PROGRAM..       runs a program with FILE as its standard input, in pieces of 1 to 99 bytes
 
-A case is a line of four fields of 8 columns with the lengths of chart.txt, queries.txt, rooms.txt and batch.txt, and then the bytes of these
-four. A file that is missing counts as empty.
+A case is a line of five fields of 8 columns with the lengths of chart.txt, queries.txt, rooms.txt, batch.txt and log.txt, and then the bytes
+of these five. A file that is missing counts as empty.
 """
 import collections, fnmatch, os, random, re, subprocess, sys
 
 sys.dont_write_bytecode = True  # nothing is left in the source tree
 from second import fields
 
-TEXTS = ('chart.txt', 'queries.txt', 'rooms.txt', 'batch.txt')
-LARGEST = 31465  # bytes of the largest chart
+TEXTS = ('chart.txt', 'queries.txt', 'rooms.txt', 'batch.txt', 'log.txt')
 
 
 def names(d):
@@ -51,8 +48,8 @@ def pack(d, out, patterns, texts):
         # expect.txt is by the second implementation: the two must agree before they judge a third
         expect = read(d, name, 'expect.txt').decode().split()
         if expect and expect[0] != verdict(answers): sys.exit('%s: the oracle says %s and gen.py %s' % (name, verdict(answers), expect[0]))
-        stdin += b'%8d%8d%8d%8d\n' % tuple(map(len, parts)) + b''.join(parts)
-        stdout += answers + (read(d, name, 'batch-answer.txt') if parts[3] else b'')
+        stdin += b'%8d%8d%8d%8d%8d\n' % tuple(map(len, parts)) + b''.join(parts)
+        stdout += answers + (read(d, name, 'batch-answer.txt') if parts[3] else b'') + (read(d, name, 'bends.txt') if parts[4] else b'')
         packed += name + '\n'
         count[int(verdict(answers))] += 1
     os.makedirs(out, exist_ok=True)
@@ -69,28 +66,12 @@ def limit(d, n, m):
         if len(lines) > kept: write(b''.join(lines[:kept]), d, name, 'queries.txt')
 
 
-def parts(d, n):
-    line, cost = [], 0.0
-    for name in names(d):
-        # a line is by one call, or three for a room, and so is a batch, whose entries take some time too; each call checks its chart, in a
-        # time that grows with the square of its length
-        answers, batches = read(d, name, 'answers.txt'), read(d, name, 'batch-answer.txt')
-        calls = answers.count(b'\n') + 2 * answers.count(b'\nroom ') + batches.count(b'book ') + 0.5 * batches.count(b' ') / 18
-        c = calls * (len(read(d, name, 'chart.txt')) / LARGEST) ** 2
-        if line and cost + c > n:
-            print(*line)
-            line, cost = [], 0.0
-        line.append(name)
-        cost += c
-    print(*line)
-
-
 def unpack(path, d):
     b, at, n = read(path), 0, 0
     while at < len(b):
-        sizes = fields(b[at:at + 33], 4)
+        sizes = fields(b[at:at + 41], 5)
         if sizes is None or min(sizes) < 0: sys.exit('byte %d: no header' % at)
-        at += 33
+        at += 41
         case = os.path.join(d, '%05d' % n)
         os.makedirs(case)
         for t, size in zip(TEXTS, sizes):
@@ -120,11 +101,10 @@ def feed(path, command):
 
 
 if __name__ == '__main__':
-    a = [w for w in sys.argv[1:] if w not in ('--queries', '--rooms', '--batch')]
+    a = [w for w in sys.argv[1:] if w not in ('--queries', '--rooms', '--batch', '--log')]
     if a[:1] == ['pack'] and len(a) > 2:
         pack(a[1], a[2], a[3:], [t for t in TEXTS if t == TEXTS[0] or '--' + t[:-4] in sys.argv])
     elif a[:1] == ['limit'] and len(a) in (3, 4): limit(a[1], int(a[2]), int(a[-1]))
-    elif a[:1] == ['parts'] and len(a) == 3: parts(a[1], int(a[2]))
     elif a[:1] == ['unpack'] and len(a) == 3: unpack(a[1], a[2])
     elif a[:1] == ['where'] and len(a) == 3: where(a[1], int(a[2]))
     elif a[:1] == ['feed'] and len(a) > 2: sys.exit(feed(a[1], a[2:]))

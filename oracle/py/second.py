@@ -470,7 +470,7 @@ def suite(d, first_only=False, only=None):
         n = list(map(int, (rd('queries.txt') or b'').split()))
         mine = answers(b, list(zip(n[::2], n[1::2])), list(map(int, (rd('rooms.txt') or b'').split())), only)
         todo = [('answers.txt', mine)]
-        if rd('log.txt') is not None and only is None: todo.append(('bends.txt', bends(b, rd('log.txt'))))
+        if rd('log.txt') is not None and (only is None or 'log' in only): todo.append(('bends.txt', bends(b, rd('log.txt'))))
         if rd('batch.txt') is not None and (only is None or 'batch' in only): todo.append(('batch-answer.txt', batch(b, rd('batch.txt').decode())))
         for f, m in todo:
             theirs = (rd(f) or b'').decode()
