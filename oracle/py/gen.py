@@ -730,6 +730,8 @@ def hunt(rnd, write):
             write('h%04d' % k, 'expect.txt', '0 values at the rims of the charge\n')
             write('h%04d' % k, 'queries.txt', ''.join('%d %d\n' % q for q in qs))
             write('h%04d' % k, 'log.txt', ''.join('%8d%8d%8d%8d%8d\n' % (1, 0, *q, 3) for q in qs))
+            bends = ' '.join('1 0 %d %d 3' % q for q in qs)  # on a section whose count is full, and after its splice
+            write('h%04d' % k, 'batch.txt', '1 0 %d\n0 %d\n' % (len(qs), 10 ** 12) + '0 0\n' * 15 + bends + '\n%d 0\n2 0 0 0 0 %s\n' % (len(qs) + 1, bends))
             k += 1
     print('ranges of method 3 not met:', [r for r in half if left[r]])
 

@@ -17,7 +17,14 @@ pub fn cases(
     let count = os::arg_count();
     let mut i = 1;
     while i < count {
-        folder(i, chart_space, query_space, room_space, batch_space, log_space);
+        folder(
+            i,
+            chart_space,
+            query_space,
+            room_space,
+            batch_space,
+            log_space,
+        );
         i += 1;
     }
 }
