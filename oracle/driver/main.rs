@@ -34,9 +34,6 @@ impl Only {
         a.drain(i..i + 2);
         Ok(Only(Some(list)))
     }
-    fn all(&self) -> bool {
-        self.0.is_none()
-    }
     fn has(&self, kind: &str) -> bool {
         self.0.as_ref().map_or(true, |list| list.iter().any(|k| k == kind))
     }
