@@ -17,7 +17,7 @@ use Rattle.ranges.specs.Ranges.{outOfRange}
 use Rattle.ranges.specs.Passed.{Counted, in-range, values-in}
 use Rattle.checks.specs.Checks.{chartRefusal, tablesRefusal, Loaded, told}
 use Rattle.checks.specs.Checks.Loaded.{loaded, refused}
-use Rattle.reading.specs.Reading.{headLength, headOf, fileLength, Body, pickBody, three, bodyOf, loadBody, loadOf, refusalOf, afterHead, chartIn, chartRefusalOf}
+use Rattle.reading.specs.Reading.{headLength, headOf, fileLength, Body, three, bodyOf, loadBody, loadOf, refusalOf, afterHead, chartIn, chartRefusalOf}
 use Rattle.reading.specs.Reading.Body.{body, malformed}
 use Rattle.reading.specs.declared.Head.{Head}
 use Rattle.reading.specs.declared.Head.the-variants.{Refused, Counts}
@@ -44,7 +44,7 @@ three-sized v e f (cells x) (cells y) bad vs es fs p q r h = never (cc)
 three-sized v e f (cells x) bad c vs es fs p q r h = never (cc)
 three-sized v e f bad b c vs es fs p q r h = never (cc)
 
-pick-body : (b : Bool) (x y : Body) (vs es fs : List ℤ) → y ≡ malformed 3 → pickBody b x y ≡ body vs es fs → x ≡ body vs es fs
+pick-body : (b : Bool) (x y : Body) (vs es fs : List ℤ) → y ≡ malformed 3 → cond b x y ≡ body vs es fs → x ≡ body vs es fs
 pick-body true x y vs es fs m h = h
 pick-body false x y vs es fs m h = never (cc)
 

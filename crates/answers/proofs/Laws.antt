@@ -1,7 +1,7 @@
 -- Laws of the definitions of specs/.
 use Prim.Native.Nat.{ℕ, zero, suc, _+_, _-_, _*_, _^_, _<_, _≤_}
 use mathlib.Core.List.{List, [], _∷_, _++_}
-use mathlib.Core.Bool.{Bool, true, false, not, true≢false}
+use mathlib.Core.Bool.{Bool, true, false, not, cond, true≢false}
 use mathlib.Core.Path.{_≡_, refl, ap, sym}
 use native.Mathlib.Omega.{arith}
 use native.Mathlib.Nat.{pow-le-pow-right, zero-add}
@@ -27,7 +27,7 @@ use Rattle.answers.specs.declared.batches.Opening.the-variants.{NoOpenin
 use Rattle.answers.specs.Batch.{bothOf, twoOf, openingIn, openingOf}
 use Rattle.answers.specs.declared.packed.Header.the-variants.{Broken}
 use Rattle.answers.specs.declared.queries.Query.the-variants.{NoQuery}
-use Rattle.answers.specs.Decimal.{mostDigits, noMagnitude, digitsMake, magnitudeOf, aboveOf, belowOf, decimalOf, pickNatural, wholeOf, naturalOf}
+use Rattle.answers.specs.Decimal.{mostDigits, noMagnitude, digitsMake, magnitudeOf, aboveOf, belowOf, decimalOf, wholeOf, naturalOf}
 use Rattle.answers.specs.Header.{limit, sizeOf, headerLine, headerOf}
 use Rattle.answers.specs.Path.{pathOf}
 use Rattle.answers.specs.Query.{untilOf, pairOf, queryOf}
@@ -135,7 +135,7 @@ unfolding valueOf
 value-least [] a = omega arith
 value-least (x ∷ s) a = omega (arith, value-least s (a * 10 + (x - 48)))
 
-either-way : (b : Bool) → pickNatural b NoNumber NoNumber ≡ NoNumber
+either-way : (b : Bool) → cond b NoNumber NoNumber ≡ NoNumber
 either-way true = refl
 either-way false = refl
 

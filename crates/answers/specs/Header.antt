@@ -1,7 +1,7 @@
 -- The header line of a packed case (oracle/README.md): five fields of 8 columns and the line end, the sizes of the case's texts.
 use Prim.Native.Nat.{ℕ}
 use mathlib.Core.List.{List}
-use mathlib.Core.Bool.{Bool, true, false}
+use mathlib.Core.Bool.{cond}
 use lib.ListN.{length, getD}
 use lib.Dec.{eqb, ltb}
 use lib.IntN.{ℤ, pos, negsuc}
@@ -19,14 +19,10 @@ abbrev pub sizeOf : ℤ → ℕ
 sizeOf (pos n) = n
 sizeOf (negsuc n) = limit
 
-abbrev pub pickHeader : Bool → Header → Header → Header
-pickHeader true a b = a
-pickHeader false a b = b
-
 abbrev pub sizesOf : ℕ → ℕ → ℕ → ℕ → ℕ → Header
 sizesOf c q r b l =
-    pickHeader (ltb c limit)
-    (pickHeader (ltb q limit) (pickHeader (ltb r limit) (pickHeader (ltb b limit) (pickHeader (ltb l limit) (Sizes c q r b l) Broken) Broken) Broken) Broken)
+    cond (ltb c limit)
+    (cond (ltb q limit) (cond (ltb r limit) (cond (ltb b limit) (cond (ltb l limit) (Sizes c q r b l) Broken) Broken) Broken) Broken)
     Broken
 
 abbrev pub headerLine : Cells → Header
@@ -34,4 +30,4 @@ headerLine (cells l) = sizesOf (sizeOf (getD l 0 (pos 0))) (sizeOf (getD l 1 (po
 headerLine bad = Broken
 
 unfoldable pub headerOf : List ℕ → Header
-headerOf s = pickHeader (eqb (length s) 41) (headerLine (lineOf 5 s)) Broken
+headerOf s = cond (eqb (length s) 41) (headerLine (lineOf 5 s)) Broken

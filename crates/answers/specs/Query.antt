@@ -1,9 +1,9 @@
 -- A line of a queries text (oracle/README.md): two numbers with a space between them.
 use Prim.Native.Nat.{ℕ, suc}
+use mathlib.Core.Bool.{cond}
 use mathlib.Core.List.{List, [], _∷_}
 use lib.ListN.{take, drop}
 use lib.Dec.{eqb}
-use Rattle.text.specs.Field.{pickℕ}
 use Rattle.text.specs.declared.Field.{Field}
 use Rattle.text.specs.declared.Field.the-variants.{Number, Malformed}
 use Rattle.answers.specs.Decimal.{decimalOf}
@@ -13,7 +13,7 @@ use Rattle.answers.specs.declared.queries.Query.the-variants.{At, NoQuer
 -- How many bytes stand before the first b; all of them where there is none.
 unfoldable pub untilOf : ℕ → List ℕ → ℕ
 untilOf b [] = 0
-untilOf b (x ∷ s) = pickℕ (eqb x b) 0 (suc (untilOf b s))
+untilOf b (x ∷ s) = cond (eqb x b) 0 (suc (untilOf b s))
 
 abbrev pub pairOf : Field → Field → Query
 pairOf (Number x) (Number y) = At x y

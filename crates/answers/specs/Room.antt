@@ -1,9 +1,9 @@
 -- A line of a rooms text (oracle/README.md): the length of an answer slice. And what a natural call says of it.
 use Prim.Native.Nat.{ℕ}
+use mathlib.Core.Bool.{cond}
 use mathlib.Core.List.{List}
 use lib.Dec.{eqb}
 use lib.IntN.{ℤ, pos, negsuc}
-use Rattle.text.specs.Field.{pickℕ}
 use Rattle.text.specs.declared.Field.{Field}
 use Rattle.text.specs.declared.Field.the-variants.{Number, Malformed}
 use Rattle.estivolh.specs.declared.NaturalNeighbors.{NaturalNeighbors}
@@ -26,7 +26,7 @@ roomOf s = roomIn (decimalOf s)
 
 -- A load off the grid is refused by 13 where neither the chart nor the room is.
 abbrev pub beforeLoad : ℕ → ℕ
-beforeLoad n = pickℕ (eqb n 13) 0 n
+beforeLoad n = cond (eqb n 13) 0 n
 
 -- Such a load is never listed.
 abbrev pub refusalIn : NaturalNeighbors → ℕ

@@ -1,7 +1,7 @@
 -- What callers need of the definitions of Log. Assumes nothing.
 use Prim.Native.Nat.{ℕ, _+_, _*_, _/_, _%_, _≤_}
 use mathlib.Core.List.{List, _++_}
-use mathlib.Core.Bool.{Bool, true, false, not}
+use mathlib.Core.Bool.{Bool, true, false, not, cond}
 use mathlib.Core.Path.{_≡_, refl, ap, sym, _∙_}
 use native.Mathlib.Omega.{arith}
 use borrow.Author.Tests.{not-false, eqb-true, ltb-false}
@@ -12,13 +12,13 @@ use lib.Seq.{take-all, take-at}
 use Rattle.tables.specs.Table.{Cells, tableOf}
 use Rattle.tables.specs.Table.Cells.{cells, bad}
 use Rattle.tables.specs.Size.{table-length}
-use Rattle.log.specs.Log.{entryFields, entryBytes, entriesMax, logMax, Log, pickLog, logFields, logOf, wholeLog, LogOutcome, saidLog, logLeft}
+use Rattle.log.specs.Log.{entryFields, entryBytes, entriesMax, logMax, Log, logFields, logOf, wholeLog, LogOutcome, saidLog, logLeft}
 use Rattle.log.specs.Log.Log.{entries, refused}
 use Rattle.log.specs.declared.LogRead.{LogRead}
 
 kept-by : (log : List ℕ) (k : ℕ) → logMax ≤ k → (a b : Bool) → not (eqb (length log % entryBytes) 0) ≡ a → ltb entriesMax (length log / entryBytes) ≡ b
-    → pickLog a (refused 3) (pickLog b (refused 4) (logFields (tableOf entryFields (length log / entryBytes) (take k log))))
-    ≡ pickLog a (refused 3) (pickLog b (refused 4) (logFields (tableOf entryFields (length log / entryBytes) log)))
+    → cond a (refused 3) (cond b (refused 4) (logFields (tableOf entryFields (length log / entryBytes) (take k log))))
+    ≡ cond a (refused 3) (cond b (refused 4) (logFields (tableOf entryFields (length log / entryBytes) log)))
 kept-by log k h true b p q = refl
 kept-by log k h false true p q = refl
 kept-by log k h false false p q =
@@ -44,7 +44,7 @@ held-fields n bytes h (cells l) e = let f = table-length entryFields n bytes l e
 held-fields n bytes h bad e = λ z. omega arith
 
 held-by : (size : ℕ) (bytes : List ℕ) (a b : Bool) → ltb entriesMax (size / entryBytes) ≡ b
-    → Held (pickLog a (refused 3) (pickLog b (refused 4) (logFields (tableOf entryFields (size / entryBytes) bytes))))
+    → Held (cond a (refused 3) (cond b (refused 4) (logFields (tableOf entryFields (size / entryBytes) bytes))))
 held-by size bytes true b q = λ z. omega arith
 held-by size bytes false true q = λ z. omega arith
 held-by size bytes false false q = held-fields (size / entryBytes) bytes (ltb-false entriesMax (size / entryBytes) q) _ refl

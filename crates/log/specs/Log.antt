@@ -1,7 +1,7 @@
 -- 01, "Program": the log, what it holds, and the first refusal that meets it.
 use Prim.Native.Nat.{ℕ, _*_, _/_, _%_}
 use mathlib.Core.List.{List, _++_}
-use mathlib.Core.Bool.{Bool, true, false, not}
+use mathlib.Core.Bool.{not, cond}
 use lib.Dec.{eqb, ltb}
 use lib.IntN.{ℤ}
 use lib.ListN.{length, drop}
@@ -31,10 +31,6 @@ pub data Log : Type 0 where
   entries : List ℤ → Log
   refused : ℕ → Log
 
-abbrev pub pickLog : Bool → Log → Log → Log
-pickLog true a b = a
-pickLog false a b = b
-
 -- 01 "Program": "5 if malformed"
 abbrev pub logFields : Cells → Log
 logFields (cells l) = entries l
@@ -43,8 +39,8 @@ logFields bad = refused 5
 -- 01 "Program": "4 if more; 3 if no multiple of 41; 5 if malformed; length, count, then fields": what a log of so many bytes holds
 unfoldable pub logOf : ℕ → List ℕ → Log
 logOf size bytes =
-    pickLog (not (eqb (size % entryBytes) 0)) (refused 3)
-    (pickLog (ltb entriesMax (size / entryBytes)) (refused 4)
+    cond (not (eqb (size % entryBytes) 0)) (refused 3)
+    (cond (ltb entriesMax (size / entryBytes)) (refused 4)
     (logFields (tableOf entryFields (size / entryBytes) bytes)))
 
 -- what a whole log holds

@@ -1,7 +1,7 @@
 -- Laws of the definitions of specs/Reading.antt, a step at a time. Assumes nothing.
 use Prim.Native.Nat.{ℕ, zero, suc, _+_, _*_, _≤_, _<_}
 use mathlib.Core.List.{List}
-use mathlib.Core.Bool.{Bool}
+use mathlib.Core.Bool.{Bool, cond}
 use mathlib.Core.Path.{_≡_, refl, ap, _∙_}
 use native.Mathlib.Omega.{arith}
 use lib.ListN.{length, drop}
@@ -12,17 +12,17 @@ use Rattle.tables.specs.Table.Cells.{cells, bad}
 use Rattle.chart.specs.Tables.{unsignedAll}
 use Rattle.checks.specs.Checks.{tablesRefusal, Loaded, told}
 use Rattle.reading.specs.declared.Head.the-variants.{Refused}
-use Rattle.reading.specs.Reading.{pickHead, headLine, headOf, fileLength, three, bodyOf, saidBody, loadBody, loadOf}
+use Rattle.reading.specs.Reading.{headLine, headOf, fileLength, three, bodyOf, saidBody, loadBody, loadOf}
 use Rattle.reading.specs.Reading.Body.{malformed}
 
 -- ---- line 1
 pub head-short : (s : List ℕ) → length s < 25 → headOf s ≡ Refused 3
 unfolding headOf
-head-short s h = ap (λ (b : Bool). pickHead b (Refused 3) (headLine (lineOf 3 s))) (lt-ltb (length s) 25 h)
+head-short s h = ap (λ (b : Bool). cond b (Refused 3) (headLine (lineOf 3 s))) (lt-ltb (length s) 25 h)
 
 pub head-line : (s : List ℕ) (c : Cells) → 25 ≤ length s → lineOf 3 s ≡ c → headOf s ≡ headLine c
 unfolding headOf
-head-line s c h e = ap (λ (b : Bool). pickHead b (Refused 3) (headLine (lineOf 3 s))) (le-ltb (length s) 25 h) ∙ ap headLine e
+head-line s c h e = ap (λ (b : Bool). cond b (Refused 3) (headLine (lineOf 3 s))) (le-ltb (length s) 25 h) ∙ ap headLine e
 
 -- ---- the rest
 pub body-length : (v e f : ℕ) (s : List ℕ) → (length s ≡ fileLength v e f → ⊥) → bodyOf v e f s ≡ malformed 3

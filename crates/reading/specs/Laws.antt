@@ -1,7 +1,7 @@
 -- What callers need of the definitions of Reading. Assumes nothing.
 use Prim.Native.Nat.{ℕ, zero, suc, _+_, _*_}
 use mathlib.Core.List.{List}
-use mathlib.Core.Bool.{Bool, true, false}
+use mathlib.Core.Bool.{Bool, true, false, cond}
 use mathlib.Core.Path.{_≡_, refl, sym, ap, _∙_}
 use native.Mathlib.Omega.{arith}
 use lib.ListN.{length, drop, getD}
@@ -16,7 +16,7 @@ use Rattle.checks.specs.Checks.{tablesRefusal, told}
 use Rattle.checks.specs.Checks.Loaded.{loaded, refused}
 use Rattle.reading.specs.declared.Head.{Head}
 use Rattle.reading.specs.declared.Head.the-variants.{Refused, Counts}
-use Rattle.reading.specs.Reading.{pickHead, countsOf, headLine, headLength, headOf, fileLength, Body, pickBody, three, bodyOf, loadBody, loadOf, refusalOf, afterHead, chartIn}
+use Rattle.reading.specs.Reading.{countsOf, headLine, headLength, headOf, fileLength, Body, three, bodyOf, loadBody, loadOf, refusalOf, afterHead, chartIn}
 use Rattle.reading.specs.Reading.Body.{body, malformed}
 
 never : {X : Type 0} → _≡_ {A = ℕ} 0 1 → X
@@ -28,7 +28,7 @@ told-refusal zero vs es fs = refl
 told-refusal (suc r) vs es fs = refl
 
 -- ---- counts of a first line are in their ranges
-counts-by : (x y z : ℤ) (v e f : ℕ) (b : Bool) → countsRefused x y z ≡ b → pickHead b (Refused 4) (Counts (unsigned x) (unsigned y) (unsigned z)) ≡ Counts v e f → Counted v e f
+counts-by : (x y z : ℤ) (v e f : ℕ) (b : Bool) → countsRefused x y z ≡ b → cond b (Refused 4) (Counts (unsigned x) (unsigned y) (unsigned z)) ≡ Counts v e f → Counted v e f
 counts-by x y z v e f true h q = never (cc)
 counts-by x y z v e f false h q =
     let p = passed-positive x y z h in
@@ -49,7 +49,7 @@ unfolding countsOf
 line-counts (cells l) v e f q = counts-by (getD l 0 (pos 0)) (getD l 1 (pos 0)) (getD l 2 (pos 0)) v e f _ refl q
 line-counts bad v e f q = never (cc)
 
-pick-counts : (b : Bool) (h : Head) (v e f : ℕ) → pickHead b (Refused 3) h ≡ Counts v e f → h ≡ Counts v e f
+pick-counts : (b : Bool) (h : Head) (v e f : ℕ) → cond b (Refused 3) h ≡ Counts v e f → h ≡ Counts v e f
 pick-counts true h v e f q = never (cc)
 pick-counts false h v e f q = q
 
@@ -58,7 +58,7 @@ unfolding headOf
 head-counted s v e f q = line-counts (lineOf 3 s) v e f (pick-counts (ltb (length s) headLength) (headLine (lineOf 3 s)) v e f q)
 
 -- ---- a refusal has a number above 0
-counts-refusal : (b : Bool) (x y z n : ℕ) → pickHead b (Refused 4) (Counts x y z) ≡ Refused n → n ≡ 0 → ⊥
+counts-refusal : (b : Bool) (x y z n : ℕ) → cond b (Refused 4) (Counts x y z) ≡ Refused n → n ≡ 0 → ⊥
 counts-refusal true x y z n q e = let w : n ≡ 4 = cc in omega arith
 counts-refusal false x y z n q e = never (cc)
 
@@ -67,7 +67,7 @@ unfolding countsOf
 line-refusal (cells l) n q e = counts-refusal (countsRefused (getD l 0 (pos 0)) (getD l 1 (pos 0)) (getD l 2 (pos 0))) _ _ _ n q e
 line-refusal bad n q e = let w : n ≡ 5 = cc in omega arith
 
-pick-refusal : (b : Bool) (c : Cells) (n : ℕ) → pickHead b (Refused 3) (headLine c) ≡ Refused n → n ≡ 0 → ⊥
+pick-refusal : (b : Bool) (c : Cells) (n : ℕ) → cond b (Refused 3) (headLine c) ≡ Refused n → n ≡ 0 → ⊥
 pick-refusal true c n q e = let w : n ≡ 3 = cc in omega arith
 pick-refusal false c n q e = line-refusal c n q e
 
@@ -81,7 +81,7 @@ three-refusal (cells a) (cells b) bad n q e = let w : n ≡ 5 = cc in omega arit
 three-refusal (cells a) bad c n q e = let w : n ≡ 5 = cc in omega arith
 three-refusal bad b c n q e = let w : n ≡ 5 = cc in omega arith
 
-body-refusal : (t : Bool) (a b c : Cells) (n : ℕ) → pickBody t (three a b c) (malformed 3) ≡ malformed n → n ≡ 0 → ⊥
+body-refusal : (t : Bool) (a b c : Cells) (n : ℕ) → cond t (three a b c) (malformed 3) ≡ malformed n → n ≡ 0 → ⊥
 body-refusal true a b c n q e = three-refusal a b c n q e
 body-refusal false a b c n q e = let w : n ≡ 3 = cc in omega arith
 

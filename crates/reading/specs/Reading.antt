@@ -1,7 +1,7 @@
 -- 01, "Chart text" and the rows of chart text, 3, 4, 5: what a chart's bytes hold, and the first refusal that meets them.
 use Prim.Native.Nat.{ℕ, zero, suc, _+_, _*_}
 use mathlib.Core.List.{List}
-use mathlib.Core.Bool.{Bool, true, false}
+use mathlib.Core.Bool.{cond}
 use lib.ListN.{length, drop, getD}
 use lib.Dec.{ltb, eqb}
 use lib.IntN.{ℤ, pos}
@@ -18,19 +18,15 @@ use Rattle.reading.specs.declared.Head.the-variants.{Refused, Counts}
 abbrev pub headLength : ℕ
 headLength = lineBytes 3
 
-abbrev pub pickHead : Bool → Head → Head → Head
-pickHead true a b = a
-pickHead false a b = b
-
 unfoldable pub countsOf : ℤ → ℤ → ℤ → Head
-countsOf v e f = pickHead (countsRefused v e f) (Refused 4) (Counts (unsigned v) (unsigned e) (unsigned f))
+countsOf v e f = cond (countsRefused v e f) (Refused 4) (Counts (unsigned v) (unsigned e) (unsigned f))
 
 abbrev pub headLine : Cells → Head
 headLine (cells l) = countsOf (getD l 0 (pos 0)) (getD l 1 (pos 0)) (getD l 2 (pos 0))
 headLine bad = Refused 5
 
 unfoldable pub headOf : List ℕ → Head
-headOf s = pickHead (ltb (length s) headLength) (Refused 3) (headLine (lineOf 3 s))
+headOf s = cond (ltb (length s) headLength) (Refused 3) (headLine (lineOf 3 s))
 
 -- ---- the rest. 3: length not what the counts give; 5 on the rest
 abbrev pub fileLength : ℕ → ℕ → ℕ → ℕ
@@ -39,10 +35,6 @@ fileLength v e f = headLength + lineBytes 4 * v + lineBytes 4 * e + lineBytes 1 
 pub data Body : Type 0 where
   body : List ℤ → List ℤ → List ℤ → Body
   malformed : ℕ → Body
-
-abbrev pub pickBody : Bool → Body → Body → Body
-pickBody true a b = a
-pickBody false a b = b
 
 abbrev pub three : Cells → Cells → Cells → Body
 three (cells a) (cells b) (cells c) = body a b c
@@ -53,7 +45,7 @@ three bad b c = malformed 5
 -- per vertex: x, y, value, out half-edge; per half-edge: origin, next, prev, face; per face: adjacent half-edge
 unfoldable pub bodyOf : ℕ → ℕ → ℕ → List ℕ → Body
 bodyOf v e f s =
-    pickBody (eqb (length s) (fileLength v e f))
+    cond (eqb (length s) (fileLength v e f))
     (three (tableOf 4 v (drop headLength s)) (tableOf 4 e (drop (headLength + lineBytes 4 * v) s))
     (tableOf 1 f (drop (headLength + lineBytes 4 * v + lineBytes 4 * e) s)))
     (malformed 3)

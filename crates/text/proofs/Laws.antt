@@ -1,7 +1,7 @@
 -- Laws of specs/: a byte at a time; then, that a field is the text of its number exactly when its digits are plain, after a minus sign or with none.
 use Prim.Native.Nat.{ℕ, zero, suc, _+_, _-_, _*_, _/_, _%_, _^_, _≤_, _<_}
 use mathlib.Core.List.{List, [], _∷_, _++_, append-assoc, append-nil}
-use mathlib.Core.Bool.{Bool, true, false, not, true≢false}
+use mathlib.Core.Bool.{Bool, true, false, not, cond, _&&_, true≢false}
 use mathlib.Core.Logic.{_⊎_, inl, inr, ⊎-elim}
 use mathlib.Core.Path.{_≡_, refl, ap, sym, _∙_}
 use native.Mathlib.Omega.{arith}
@@ -13,8 +13,9 @@ use lib.IntN.{ℤ, pos, negsuc}
 use lib.Seq.{drop-cons}
 use lib.Dec.{eqb, leb, lit<}
 use borrow.Author.Tests.{eq-eqb, ne-eqb, eqb-true, eqb-false, not-true, le-leb, leb-true, lt-ltb}
-use Rattle.text.specs.Bytes.{both, both-true, eqs-refl, eqs-other}
-use Rattle.text.specs.Field.{fieldWidth, spacesOf, digitsOf, valueOf, columns, lastDigit, fieldOf, fieldText, candidate, signed, pickField}
+use Rattle.whole.specs.Bools.{and-true}
+use Rattle.text.specs.Bytes.{eqs-refl, eqs-other}
+use Rattle.text.specs.Field.{fieldWidth, spacesOf, digitsOf, valueOf, columns, lastDigit, fieldOf, fieldText, candidate, signed}
 use Rattle.text.specs.Natural.{isFigure, figures, plain, numberIf, belowZero}
 use Rattle.text.specs.declared.Field.the-variants.{Number, Malformed}
 
@@ -46,7 +47,7 @@ unfolding valueOf
 value-none a = refl
 
 -- A byte more, a digit or not.
-pub figures-more : (s : List ℕ) (i : ℕ) → i < length s → figures (drop i s) ≡ both (isFigure (getD s i 0)) (figures (drop (suc i) s))
+pub figures-more : (s : List ℕ) (i : ℕ) → i < length s → figures (drop i s) ≡ (isFigure (getD s i 0) && figures (drop (suc i) s))
 unfolding figures
 figures-more s i h = rw (drop-cons s i 0 h)
 
@@ -57,7 +58,7 @@ figures-none = refl
 
 -- A digit is '0' to '9'.
 pub figure-range : (b : ℕ) → isFigure b ≡ true → (48 ≤ b) × (b ≤ 57)
-figure-range b e = let p = both-true (leb 48 b) (leb b 57) e in (leb-true 48 b (p .0), leb-true b 57 (p .1))
+figure-range b e = let p = and-true (leb 48 b) (leb b 57) e in (leb-true 48 b (p .0), leb-true b 57 (p .1))
 
 -- The number of i digits stays below 10 ^ i.
 pub value-grows : (i v f : ℕ) → v < 10 ^ i → f < 10 → v * 10 + f < 10 ^ (i + 1)
@@ -115,7 +116,7 @@ columns-digits : (d : List ℕ) (w k g a : ℕ) → k + length d ≡ w → 0 < a
 unfolding valueOf figures
 columns-digits [] w k g a e h f = let q : w ≡ k = omega arith in rw (q, append-nil (columns k g a)) refl
 columns-digits (x ∷ d) w k g a e h f =
-    let p = both-true (isFigure x) (figures d) f in
+    let p = and-true (isFigure x) (figures d) f in
     columns-digits d w (suc k) g (a * 10 + (x - 48)) (omega arith) (omega arith) (p .1)
     ∙ ap (λ (l : List ℕ). l ++ d) (columns-more k g a x (p .0) (omega arith))
     ∙ append-assoc (columns k g a) (x ∷ []) d
@@ -152,10 +153,10 @@ unfolding plain figures
 plain-text [] w k g e p = absurd (true≢false (sym p))
 plain-text (x ∷ []) w k g e p =
     let q : w ≡ suc k = omega arith in
-    rw (q, value-first x [], value-none (x - 48)) (last-one k g x (both-true (isFigure x) true p .0))
+    rw (q, value-first x [], value-none (x - 48)) (last-one k g x (and-true (isFigure x) true p .0))
 plain-text (x ∷ y ∷ s) w k g e p =
-    let q = both-true (not (eqb x 48)) (figures (x ∷ y ∷ s)) p in
-    let f = both-true (isFigure x) (figures (y ∷ s)) (q .1) in
+    let q = and-true (not (eqb x 48)) (figures (x ∷ y ∷ s)) p in
+    let f = and-true (isFigure x) (figures (y ∷ s)) (q .1) in
     let b = figure-range x (f .0) in
     let z = eqb-false x 48 (not-true (eqb x 48) (q .0)) in
     let h : 0 < x - 48 = omega arith in
@@ -209,7 +210,7 @@ value-snoc (x ∷ s) a b = value-snoc s (a * 10 + (x - 48)) b
 figures-snoc : (s : List ℕ) (b : ℕ) → figures s ≡ true → isFigure b ≡ true → figures (s ++ (b ∷ [])) ≡ true
 unfolding figures
 figures-snoc [] b h f = rw f refl
-figures-snoc (x ∷ s) b h f = let p = both-true (isFigure x) (figures s) h in rw (p .0) (figures-snoc s b (p .1) f)
+figures-snoc (x ∷ s) b h f = let p = and-true (isFigure x) (figures s) h in rw (p .0) (figures-snoc s b (p .1) f)
 
 -- What the text has for a digit is one.
 figure-of : (n : ℕ) → isFigure (48 + n % 10) ≡ true
@@ -381,7 +382,7 @@ minus-plain s e g n l h d v q =
     (r .sign, text-plain e g n l (r .some) (r .text) v (r .all))
 
 -- The cases of `field-minus`: -0 is no text, since 0 is written with no sign.
-minus-by : (s e : List ℕ) → 0 < length s → digitsOf s ≡ 45 ∷ e → (n : ℕ) → valueOf 0 e ≡ n → (t : Bool) → plain e ≡ t → fieldOf s ≡ belowZero (pickField t (Number (pos n)) Malformed)
+minus-by : (s e : List ℕ) → 0 < length s → digitsOf s ≡ 45 ∷ e → (n : ℕ) → valueOf 0 e ≡ n → (t : Bool) → plain e ≡ t → fieldOf s ≡ belowZero (cond t (Number (pos n)) Malformed)
 unfolding fieldText
 minus-by s e h d zero v true p = field-no s (pos 0) (minus-candidate s e 0 d v) (λ q. omega (arith, minus-plain s e 32 0 (lit< tt) h d v q .0))
 minus-by s e h d zero v false p = field-no s (pos 0) (minus-candidate s e 0 d v) (λ q. omega (arith, minus-plain s e 32 0 (lit< tt) h d v q .0))

@@ -1,7 +1,7 @@
 -- 01, "Chart text": the text of a whole number in a field, and the number that a field holds.
 use Prim.Native.Nat.{ℕ, zero, suc, _+_, _-_, _*_, _/_, _%_}
 use mathlib.Core.List.{List, [], _∷_, _++_}
-use mathlib.Core.Bool.{Bool, true, false}
+use mathlib.Core.Bool.{Bool, true, false, cond}
 use lib.ListN.{length, drop, getD}
 use lib.Dec.{eqb}
 use lib.IntN.{ℤ, pos, negsuc, negℤ}
@@ -13,15 +13,10 @@ use Rattle.text.specs.declared.Field.the-variants.{Number, Malformed}
 abbrev pub fieldWidth : ℕ
 fieldWidth = 8
 
--- A choice between two numbers.
-abbrev pub pickℕ : Bool → ℕ → ℕ → ℕ
-pickℕ true a b = a
-pickℕ false a b = b
-
 -- 01 "Chart text": "after spaces"; how many a field begins with.
 unfoldable pub spacesOf : List ℕ → ℕ
 spacesOf [] = 0
-spacesOf (b ∷ s) = pickℕ (eqb b 32) (suc (spacesOf s)) 0
+spacesOf (b ∷ s) = cond (eqb b 32) (suc (spacesOf s)) 0
 
 -- 01 "Chart text": "The digits of a field": what stands after its spaces, a minus sign with it.
 unfoldable pub digitsOf : List ℕ → List ℕ
@@ -57,11 +52,6 @@ signed false n = pos n
 unfoldable pub candidate : List ℕ → ℤ
 candidate s = signed (eqb (getD (digitsOf s) 0 0) 45) (valueOf 0 (digitsOf s))
 
--- A choice between two fields.
-abbrev pub pickField : Bool → Field → Field → Field
-pickField true a b = a
-pickField false a b = b
-
 -- 01 "Chart text": a field holds a number where it is that number's text; so no plus, no leading zero, no -0, no blank field.
 unfoldable pub fieldOf : List ℕ → Field
-fieldOf s = pickField (eqs s (fieldText (length s) (candidate s))) (Number (candidate s)) Malformed
+fieldOf s = cond (eqs s (fieldText (length s) (candidate s))) (Number (candidate s)) Malformed
