@@ -1,7 +1,7 @@
 -- The code's tests and sums give the charge, for every f64. Assumes nothing.
 use mathlib.Core.Path.{_≡_, refl, sym, ap, _∙_, subst}
 use mathlib.Core.Logic.{_⊎_, inl, inr}
-use mathlib.Core.Bool.{Bool, true, false, not, _&&_, _||_, false≢true, true≢false}
+use mathlib.Core.Bool.{Bool, true, false, _&&_, _||_, false≢true, true≢false}
 use Prim.Native.Nat.{ℕ, _+_, _-_, _*_, _/_, _^_, _≤_, _<_, min}
 use native.Mathlib.Nat.{mul-one, one-mul, mul-assoc, mul-right-comm, add-mul, mul-le-mul-right, lt-of-le-of-lt, div-lt-iff-lt-mul, div-mul-le-self, lt-div-mul-add, div-eq-of-lt-le, eq-or-lt-of-le}
 use native.Mathlib.Decide.{decLe, decLt}
@@ -91,15 +91,6 @@ too-high (fin false m e) p = le-leb (2000001 * down e) (m * up e * 2) (ltb-false
 too-high (fin true m e) p =
     let d : 0 < down e = down-pos e in
     absurd (true≢false (rw (lt-ltb 0 (m * up e * 2 + 2000001 * down e) (omega arith)) at p))
-
--- so 16 meets exactly what is not a number, below -0.5 or at least 1,000,000.5, as f64 compares
-pub off-scale : (v : Float) → offScale v ≡ not (le lowEnd v && lt v highEnd)
-off-scale v = go (le lowEnd v) refl (lt v highEnd) refl
-  where
-    go : (a : Bool) → le lowEnd v ≡ a → (b : Bool) → lt v highEnd ≡ b → offScale v ≡ not (a && b)
-    go true p true q = on-scale v (in-range v p q)
-    go true p false q = too-high v q
-    go false p b q = too-low v p
 
 -- ---- the whole part
 -- what `truncating_f64_to_u64` asks: -1 < v < 2^64

@@ -54,7 +54,3 @@ RefusedEntry = 2000000
 abbrev pub chargeCase : {A : Type 0} → (ℕ → A) → (ℕ → A) → Charged → A
 chargeCase whole refused (Whole n) = whole n
 chargeCase whole refused (Refused k) = refused k
-
--- 01's number for each case
-abbrev pub chargeNumber : Charged → ℕ
-chargeNumber c = chargeCase (λ n. n) (λ k. RefusedEntry + k) c

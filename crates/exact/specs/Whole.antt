@@ -104,12 +104,6 @@ sum-whole true a false b = go (decLt a b) (decLt b a)
         let z : b - a ≡ a - b = omega arith in
         (record { sign = false; size = a - b; float = rw (le-ltb a b l, le-ltb b a m); int = turn ∙ minus-le b a m ∙ ap pos z }, λ u e. absurd (false≢true e))
 
--- a sum
-pub add-exact : {x y : Float} {a b : ℤ} → Whole x a → Whole y b → Within Exact a → Within Exact b → Whole (x +f y) (a +ℤ b)
-add-exact {x} {y} v w p q =
-    rw (add-val binary64 x y (v .sign) (w .sign) (v .size) (w .size) (value v p) (value w q), v .int, w .int)
-    (sum-whole (v .sign) (v .size) (w .sign) (w .size) .0)
-
 -- a difference
 pub sub-exact : {x y : Float} {a b : ℤ} → Whole x a → Whole y b → Within Exact a → Within Exact b → Whole (x -f y) (a -ℤ b)
 sub-exact {x} {y} v w p q =

@@ -17,9 +17,9 @@ use Rattle.entries.specs.declared.Entry.{Entry}
 use Rattle.entries.specs.Entry.{EntryWidth, entriesFrom, entriesOf}
 use Rattle.accounts.specs.Rulings.{Queries}
 use Rattle.accounts.specs.Batch.{Outcome, outcome, bookVerdict, bookChange, bookAfter, answersFrom, batchRefusal, batchOf, byRefusal}
-use Rattle.log.specs.Log.{Log, entriesMax, logOf}
+use Rattle.log.specs.Log.{entriesMax, logOf}
 use Rattle.log.specs.Log.Log.{entries, refused}
-use Rattle.report.specs.Lines.{refusalLine, programSections, outputOf}
+use Rattle.report.specs.Lines.{refusalLine, programSections}
 use Rattle.estivolh.specs.Account.{queries}
 use Rattle.report.specs.Laid.{laid}
 use Rattle.program.specs.Program.{programBook, afterChart, ranOf, printedOf, Printed, WholeEntries}

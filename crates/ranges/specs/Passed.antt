@@ -1,6 +1,6 @@
 -- What rows 4 and 6 leave of tables that they let pass. Assumes nothing.
 use mathlib.Core.Path.{_≡_, refl, sym, subst, ap}
-use mathlib.Core.Bool.{true, false, not, false≢true}
+use mathlib.Core.Bool.{false, not, false≢true}
 use mathlib.Core.List.{List}
 use Prim.Native.Nat.{ℕ, _+_, _*_, _/_, _%_, _≤_, _<_}
 use native.Mathlib.Nat.{add-zero}

@@ -1,14 +1,13 @@
 -- How many bytes the program's lines have. Assumes nothing.
 use Prim.Native.Nat.{ℕ, zero, suc, _+_, _*_, _/_}
-use mathlib.Core.List.{List, [], _∷_, _++_}
-use mathlib.Core.Path.{_≡_, refl, ap, _∙_}
+use mathlib.Core.List.{List, [], _∷_}
+use mathlib.Core.Path.{_≡_, refl}
 use native.Mathlib.Omega.{arith}
-use native.Mathlib.Nat.{mul-suc}
 use native.Mathlib.Numerals.{add-one}
 use lib.ListN.{length, length-append}
 use Rattle.text.specs.Field.{columns, lastDigit, fieldText}
 use Rattle.book.specs.declared.Book.{Book}
-use Rattle.report.specs.Lines.{printed, answerBytes, sectionBytes, retiredBytes, refusalBytes, bookBytes, answerLine, sectionLine, retiredLine, refusalLine, answerLines, sectionLines, bookLines, outputOf, programSections}
+use Rattle.report.specs.Lines.{printed, answerBytes, sectionBytes, retiredBytes, refusalBytes, bookBytes, answerLine, sectionLine, retiredLine, refusalLine, answerLines, sectionLines, bookLines, outputOf}
 
 columns-length : (k g n : ℕ) → length (columns k g n) ≡ k
 unfolding columns

@@ -3,7 +3,6 @@ ghost use mathlib.Core.Path.{_≡_};
 ghost use mathlib.Core.List.{[], _∷_};
 ghost use Prim.Native.Nat.{_+_, _*_, _/_, _%_, _≤_, _<_};
 ghost use lib.ListN.{length};
-ghost use Rattle.text.specs.Field.{fieldWidth};
 ghost use Rattle.report.specs.Lines.{lineFeed, columnByte, printed, answerBytes, sectionBytes, retiredBytes, refusalBytes, bookBytes, answerLine, sectionLine, retiredLine, refusalLine, answerLines, sectionLines, bookLines, outputOf, programSections};
 ghost use Rattle.report.specs.Laid.{laid};
 use book::Book;

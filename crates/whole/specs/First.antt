@@ -4,7 +4,7 @@
 use mathlib.Core.Path.{_≡_, refl, sym, ap, subst, _∙_}
 use mathlib.Core.Bool.{Bool, true, false, false≢true}
 use Prim.Native.Nat.{ℕ, zero, suc, _+_, _-_, _≤_, _<_, zero-le}
-use native.Mathlib.Nat.{lt-of-lt-of-le, sub-zero, le-refl, lt-irrefl, not-le-of-lt, eq-or-lt-of-le, add-suc, suc-add, add-zero, zero-add}
+use native.Mathlib.Nat.{lt-of-lt-of-le, sub-zero, lt-irrefl, not-le-of-lt, eq-or-lt-of-le, add-suc, suc-add, add-zero, zero-add}
 use mathlib.Core.Logic.{⊎-elim}
 use lib.Dec.{ltb}
 use borrow.Author.Tests.{ltb-true, ltb-false}
@@ -60,13 +60,6 @@ from-end p i n h = let z : n - i ≡ zero = omega arith in ap (λ (k : ℕ). fro
 from-split : (p : ℕ → Bool) (i k : ℕ) (b : Bool) → p i ≡ b → (P : ℕ → Type 0) → (b ≡ true → P i) → (b ≡ false → P (from p (suc i) k)) → P (from p i (suc k))
 from-split p i k true e P hit miss = subst P (sym (from-true p i k e)) (hit refl)
 from-split p i k false e P hit miss = subst P (sym (from-false p i k e)) (miss refl)
-
--- what is found is not before i
-from-ge : (p : ℕ → Bool) (i m : ℕ) → i ≤ from p i m
-from-ge p i zero = subst (λ (r : ℕ). i ≤ r) (sym (from-nil p i)) (le-refl i)
-from-ge p i (suc m) =
-    let ih : suc i ≤ from p (suc i) m = from-ge p (suc i) m in
-    from-split p i m (p i) refl (λ (r : ℕ). i ≤ r) (λ e. le-refl i) (λ e. omega arith)
 
 -- nothing before it passes
 from-before : (p : ℕ → Bool) (i m k : ℕ) → i ≤ k → k < from p i m → p k ≡ false

@@ -6,7 +6,7 @@ use mathlib.Core.Bool.{Bool, true, false}
 use Prim.Native.Nat.{ℕ, zero, suc, _+_, _*_, _<_, zero-le}
 use native.Mathlib.Nat.{mul-pos}
 use native.Mathlib.Omega.{arith}
-use lib.Dec.{T, ltb, ltb→lt, lt→ltb, le→leb}
+use lib.Dec.{T, ltb→lt, lt→ltb, le→leb}
 use lib.IntN.{ℤ, pos, negsuc, negℤ, _+ℤ_, _-ℤ_, _*ℤ_, *ℤ-zero, zero-*ℤ, *ℤ-comm, negℤ-+ℤ, negℤ-negℤ}
 use borrow.Author.Tests.{lt-ltb, le-ltb}
 use lib.Signed.{ltZ, leZ}

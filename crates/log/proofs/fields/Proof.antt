@@ -1,12 +1,12 @@
 -- `log::fields` meets its contract: bytes are missing, or the part that the table was read into has come back.
-use Prim.Native.Nat.{_*_, _<_, _≤_}
+use Prim.Native.Nat.{_*_, _≤_}
 use mathlib.Core.Path.{_≡_, ap, _∙_, sym}
 use mathlib.Core.List.{List}
 use native.Mathlib.Omega.{arith}
 use lib.IntN.{ℤ}
 use lib.ListN.{length, drop}
 use lib.Seq.{length-take-le, take-at}
-use Rattle.tables.specs.Table.{given, lineBytes}
+use Rattle.tables.specs.Table.{given}
 use Rattle.log.specs.Log.{entryFields}
 use Rattle.log.proofs.Laws.{table-short}
 use borrow.Author.Needs.{needs}

@@ -1,15 +1,11 @@
 -- `log::read_log` meets its contract: length, count, then fields; the numbers are copied out only where all fields are read.
-use Prim.Native.Nat.{_*_, _/_, _%_, _≤_}
-use mathlib.Core.Bool.{true, false}
-use mathlib.Core.Path.{_≡_, refl, ap, _∙_, sym}
-use mathlib.Core.List.{List}
+use Prim.Native.Nat.{_*_, _/_}
+use mathlib.Core.Path.{_≡_, refl, _∙_, sym}
 use native.Mathlib.Omega.{arith}
 use borrow.Author.Tests.{not-true, not-false}
-use lib.IntN.{ℤ}
 use lib.ListN.{length, take}
 use lib.Seq.{length-take-le}
-use Rattle.tables.specs.Table.{given}
-use Rattle.log.specs.Log.{entryFields, entryBytes, entriesMax, logFields}
+use Rattle.log.specs.Log.{entryFields, entryBytes, entriesMax}
 use Rattle.log.proofs.Laws.{log-length, log-count, log-fields, fields-read, fields-malformed, left-refused, left-entries}
 use borrow.Author.Needs.{needs}
 use Rattle.log.proofs.read_log.Statement.{statement}

@@ -2,7 +2,7 @@
 use Prim.Native.Nat.{_*_}
 use mathlib.Core.Path.{_≡_, sym, _∙_}
 use native.Mathlib.Omega.{arith}
-use lib.ListN.{length, take}
+use lib.ListN.{take}
 use lib.Seq.{length-take-le}
 use Rattle.log.specs.Log.{entryFields, logOf}
 use Rattle.log.specs.Log.Log.{refused}

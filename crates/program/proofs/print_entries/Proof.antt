@@ -1,5 +1,5 @@
 -- `program::print_entries` meets its contract: the batch is not refused, and its answers and its book are printed.
-use Prim.Native.Nat.{_+_, _*_, _/_, _≤_}
+use Prim.Native.Nat.{_+_, _*_, _/_}
 use mathlib.Core.Path.{_≡_, sym, ap, _∙_}
 use native.Mathlib.Omega.{arith}
 use lib.ListN.{length, take}

@@ -1,9 +1,8 @@
 -- `report::put_answers` meets its contract. The invariant: the lines of the answers passed are put.
 use Prim.Native.Nat.{ℕ, _+_, _*_, _-_, _≤_, _<_}
 use mathlib.Core.Path.{_≡_, refl, ap, _∙_}
-use mathlib.Core.List.{List}
 use native.Mathlib.Omega.{arith}
-use lib.ListN.{length, take, drop, getD}
+use lib.ListN.{length, take, getD}
 use lib.Seq.{length-take-le, take-length}
 use Rattle.report.specs.Lines.{answerBytes, answerLine, answerLines}
 use Rattle.report.specs.Laid.{laid, laid-none, then-laid}

@@ -3,7 +3,7 @@ use Prim.Native.Nat.{ℕ, _<_, _-_, _/_}
 use mathlib.Core.Path.{_≡_, refl, ap, sym, _∙_}
 use mathlib.Core.List.{List, _∷_, _++_}
 use native.Mathlib.Omega.{arith}
-use lib.ListN.{length, drop, set, length-set}
+use lib.ListN.{length, drop, length-set}
 use lib.Seq.{drop-length}
 use Rattle.text.specs.Field.{columns}
 use Rattle.report.specs.Lines.{printed}

@@ -1,5 +1,5 @@
 -- `report::put_refusal` meets its contract: its fields, then LF, one after the other.
-use mathlib.Core.List.{[], _∷_, _++_}
+use mathlib.Core.List.{[], _∷_}
 use native.Mathlib.Omega.{arith}
 use Rattle.text.specs.Field.{fieldWidth}
 use Rattle.report.specs.Lines.{lineFeed, printed, refusalLine}

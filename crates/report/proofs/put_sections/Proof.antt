@@ -1,13 +1,12 @@
 -- `report::put_sections` meets its contract. The invariant: the lines of the sections passed are put.
-use Prim.Native.Nat.{ℕ, _+_, _*_, _-_, _≤_}
-use mathlib.Core.Path.{_≡_, refl, ap, _∙_}
+use Prim.Native.Nat.{_+_, _*_, _-_, _≤_}
+use mathlib.Core.Path.{_≡_, refl, _∙_}
 use native.Mathlib.Omega.{arith}
 use lib.ListN.{length, getD}
 use Rattle.report.specs.Lines.{sectionBytes, sectionLine, sectionLines, programSections}
 use Rattle.report.specs.Laid.{laid, laid-none, then-laid}
 use Rattle.report.specs.Laws.{sections-length}
 use Rattle.report.proofs.Laws.{sections-none, sections-next}
-use borrow.Author.Needs.{needs}
 use Rattle.report.proofs.put_sections.Statement.{statement}
 use Rattle.report.proofs.put_sections.Tie as tie
 
