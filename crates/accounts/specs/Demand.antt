@@ -7,14 +7,13 @@ use Prim.Native.Nat.{ℕ, _<_}
 use lib.Dec.{eqb}
 use lib.IntN.{ℤ}
 use lib.ListN.{length, getD, take}
-use Rattle.charge.specs.Charging.{RefusedEntry}
 use Rattle.book.specs.declared.Book.{Book}
 use Rattle.book.specs.declared.Returned.{Returned}
 use Rattle.book.specs.Books.{wearOf, countOf, totalWear, badBook, freshBook}
 use Rattle.entries.specs.declared.Entry.{Entry}
 use Rattle.entries.specs.declared.Ruling.the-variants.{Splice}
 use Rattle.entries.specs.Entry.{entriesOf}
-use Rattle.entries.specs.Ruling.{answerOf}
+use Rattle.entries.specs.Ruling.{RefusedEntry, answerOf}
 use Rattle.accounts.specs.Rulings.{Queries}
 use Rattle.accounts.specs.Batch.{Outcome, outcome, callRefusal, batchOf}
 use Rattle.accounts.specs.Tally.{charges, wearSum, bendCount, Tally, IsAccepted}

@@ -10,7 +10,6 @@ use lib.IntN.{ℤ}
 use lib.ListN.{length, getD, take, drop, List·getD-map}
 use lib.Seq.{take-at}
 use borrow.Author.Tests.{le-ltb, ne-eqb}
-use Rattle.charge.specs.Charging.{RefusedEntry}
 use Rattle.book.specs.declared.Book.{Book}
 use Rattle.book.specs.declared.Returned.{Returned}
 use Rattle.book.specs.Books.{SectionMax, badSections, ValidBook, zeroBook}
@@ -19,7 +18,7 @@ use Rattle.entries.specs.declared.Entry.{Entry}
 use Rattle.entries.specs.declared.Ruling.{Ruling}
 use Rattle.entries.specs.declared.Ruling.the-variants.{Bend, Splice, Refused}
 use Rattle.entries.specs.Entry.{entriesOf}
-use Rattle.entries.specs.Ruling.{meets17, with17, answerOf}
+use Rattle.entries.specs.Ruling.{RefusedEntry, meets17, with17, answerOf}
 use Rattle.accounts.specs.Rulings.{Queries, Known, entryRuling, known}
 use Rattle.accounts.specs.Batch.{bookChange, bookVerdict, bookAfter, answersFrom, batchRefusal, Outcome, outcome, byRefusal}
 use Rattle.accounts.specs.Tally.{charges, bendCount, Tally, start, noted, verdict, tallyFrom, tally, IsAccepted}

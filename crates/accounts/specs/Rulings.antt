@@ -30,17 +30,17 @@ Queries = List ℕ → ℤ → Place → InterpolatedValue
 abbrev pub charged : ℕ → Float → Ruling
 charged i v = chargeCase (Bend i) Refused (chargeOf v)
 
--- 14, 15 and 16
-abbrev pub located : ℕ → InterpolatedValue → Ruling
-located i (I.Value v) = charged i v
-located i (I.Refused k) = Refused k
+-- what the queries say of a bend: 14 or 15, or the value, which 16 may meet
+abbrev pub bendRuling : ℕ → InterpolatedValue → Ruling
+bendRuling i (I.Value v) = charged i v
+bendRuling i (I.Refused k) = Refused k
 
 -- 12 to 16 in their order; 14 to 16 meet bends only, as no other kind is located or charged
 unfoldable pub entryRuling : Queries → ℕ → List ℕ → Entry → Ruling
 entryRuling Q s chart e =
     cond (unknown s e) (Refused 12)
     (cond (offGrid (placeIn e)) (Refused 13)
-    (cond (isSplice (e .kind)) (Splice (unsigned (e .section))) (located (unsigned (e .section)) (Q chart (e .method) (placeIn e)))))
+    (cond (isSplice (e .kind)) (Splice (unsigned (e .section))) (bendRuling (unsigned (e .section)) (Q chart (e .method) (placeIn e)))))
 
 -- ---- what 12 and 16 leave: the section is one of s, the charge one of 0 to 1,000,000
 abbrev pub Known : ℕ → Ruling → Type 0
@@ -61,9 +61,9 @@ charged-known s i h v = go (offScale v) refl
     go true e = rw e tt
     go false e = rw e (h, on-scale v e .1)
 
-located-known : (s i : ℕ) → i < s → (a : InterpolatedValue) → Known s (located i a)
-located-known s i h (I.Value v) = charged-known s i h v
-located-known s i h (I.Refused k) = tt
+bend-known : (s i : ℕ) → i < s → (a : InterpolatedValue) → Known s (bendRuling i a)
+bend-known s i h (I.Value v) = charged-known s i h v
+bend-known s i h (I.Refused k) = tt
 
 pub known : (Q : Queries) (s : ℕ) (chart : List ℕ) (e : Entry) → Known s (entryRuling Q s chart e)
 unfolding entryRuling
@@ -72,16 +72,16 @@ known Q s chart e = go (unknown s e) refl
     i : ℕ
     i = unsigned (e .section)
 
-    third : (b : Bool) → i < s → Known s (cond b (Splice i) (located i (Q chart (e .method) (placeIn e))))
+    third : (b : Bool) → i < s → Known s (cond b (Splice i) (bendRuling i (Q chart (e .method) (placeIn e))))
     third true h = h
-    third false h = located-known s i h (Q chart (e .method) (placeIn e))
+    third false h = bend-known s i h (Q chart (e .method) (placeIn e))
 
     second : (b : Bool) → i < s
-        → Known s (cond b (Refused 13) (cond (isSplice (e .kind)) (Splice i) (located i (Q chart (e .method) (placeIn e)))))
+        → Known s (cond b (Refused 13) (cond (isSplice (e .kind)) (Splice i) (bendRuling i (Q chart (e .method) (placeIn e)))))
     second true h = tt
     second false h = third (isSplice (e .kind)) h
 
     go : (b : Bool) → unknown s e ≡ b → Known s (cond b (Refused 12)
-        (cond (offGrid (placeIn e)) (Refused 13) (cond (isSplice (e .kind)) (Splice i) (located i (Q chart (e .method) (placeIn e))))))
+        (cond (offGrid (placeIn e)) (Refused 13) (cond (isSplice (e .kind)) (Splice i) (bendRuling i (Q chart (e .method) (placeIn e))))))
     go true h = tt
     go false h = let l : i < _ = below _ (e .section) (or-false _ _ h .0) in second (offGrid (placeIn e)) (omega (arith, l))

@@ -13,7 +13,7 @@ use Rattle.chart.specs.Tables.{unsigned}
 use Rattle.ranges.specs.Ranges.{notBelow}
 use Rattle.values.specs.declared.InterpolatedValue.{InterpolatedValue}
 use Rattle.values.specs.declared.InterpolatedValue.the-variants as I
-use Rattle.values.specs.Value.{methodOf, locatedValue, valueOn, Few, few-refusals, value-located}
+use Rattle.values.specs.Value.{methodOf, locatedValue, valueOn, UpTo15, value-up-to-15, value-located}
 use Rattle.charge.specs.Charging.{offScale}
 use Rattle.book.specs.declared.Book.{Book}
 use Rattle.book.specs.Books.{totalWear, countOf, ValidBook}
@@ -22,8 +22,8 @@ use Rattle.entries.specs.declared.Entry.{Entry}
 use Rattle.entries.specs.declared.Ruling.{Ruling}
 use Rattle.entries.specs.declared.Ruling.the-variants.{Bend, Splice, Refused}
 use Rattle.entries.specs.Entry.{isBend, isSplice, untidy, unknownKind, unknown, placeIn}
-use Rattle.entries.specs.Ruling.{meets17, with17, Sound}
-use Rattle.accounts.specs.Rulings.{Queries, Known, charged, located, entryRuling, known}
+use Rattle.entries.specs.Ruling.{meets17, with17, UpTo17}
+use Rattle.accounts.specs.Rulings.{Queries, Known, charged, bendRuling, entryRuling, known}
 use Rattle.accounts.specs.Batch.{bookVerdict}
 use Rattle.accounts.specs.Agree.{room}
 use Rattle.batch.specs.Tables.{onTables, Changeable}
@@ -55,49 +55,49 @@ module _ (c : Chart) (s : ℕ) (e : Entry) where
   ruling-splice u o k = rw (u, o, k)
 
   pub ruling-bend : unknown s e ≡ false → offGrid (placeIn e) ≡ false → isSplice (e .kind) ≡ false
-      → entryRuling (onTables c) s [] e ≡ located (unsigned (e .section)) (locatedValue (methodOf (e .method)) c (placeIn e))
+      → entryRuling (onTables c) s [] e ≡ bendRuling (unsigned (e .section)) (locatedValue (methodOf (e .method)) c (placeIn e))
   unfolding entryRuling
   ruling-bend u o k =
-      rw (u, o, k) (ap (located (unsigned (e .section))) (value-located (methodOf (e .method)) c (placeIn e) (known-method s e u k) o))
+      rw (u, o, k) (ap (bendRuling (unsigned (e .section))) (value-located (methodOf (e .method)) c (placeIn e) (known-method s e u k) o))
 
   -- ---- its number is at most 17
-  sound-charged : (i : ℕ) (v : Float) → Sound (charged i v)
-  sound-charged i v = go (offScale v) refl
+  charged-up-to-17 : (i : ℕ) (v : Float) → UpTo17 (charged i v)
+  charged-up-to-17 i v = go (offScale v) refl
     where
-      go : (b : Bool) → offScale v ≡ b → Sound (charged i v)
+      go : (b : Bool) → offScale v ≡ b → UpTo17 (charged i v)
       go true h = rw h (omega arith)
       go false h = rw h tt
 
-  sound-located : (i : ℕ) (a : InterpolatedValue) → Few a → Sound (located i a)
-  sound-located i (I.Value v) f = sound-charged i v
-  sound-located i (I.Refused k) f = omega arith
+  bend-up-to-17 : (i : ℕ) (a : InterpolatedValue) → UpTo15 a → UpTo17 (bendRuling i a)
+  bend-up-to-17 i (I.Value v) f = charged-up-to-17 i v
+  bend-up-to-17 i (I.Refused k) f = omega arith
 
-  sound-cond : (b : Bool) (x y : Ruling) → Sound x → Sound y → Sound (cond b x y)
-  sound-cond true x y f g = f
-  sound-cond false x y f g = g
+  cond-up-to-17 : (b : Bool) (x y : Ruling) → UpTo17 x → UpTo17 y → UpTo17 (cond b x y)
+  cond-up-to-17 true x y f g = f
+  cond-up-to-17 false x y f g = g
 
-  sound-ruling : Sound (entryRuling (onTables c) s [] e)
+  ruling-up-to-17 : UpTo17 (entryRuling (onTables c) s [] e)
   unfolding entryRuling
-  sound-ruling =
+  ruling-up-to-17 =
       let i = unsigned (e .section) in
-      let v = located i (valueOn (methodOf (e .method)) c (placeIn e)) in
+      let v = bendRuling i (valueOn (methodOf (e .method)) c (placeIn e)) in
       let w = cond (isSplice (e .kind)) (Splice i) v in
-      sound-cond (unknown s e) (Refused 12) (cond (offGrid (placeIn e)) (Refused 13) w) (omega arith)
-      (sound-cond (offGrid (placeIn e)) (Refused 13) w (omega arith)
-      (sound-cond (isSplice (e .kind)) (Splice i) v tt (sound-located i (valueOn (methodOf (e .method)) c (placeIn e)) (few-refusals (methodOf (e .method)) c (placeIn e)))))
+      cond-up-to-17 (unknown s e) (Refused 12) (cond (offGrid (placeIn e)) (Refused 13) w) (omega arith)
+      (cond-up-to-17 (offGrid (placeIn e)) (Refused 13) w (omega arith)
+      (cond-up-to-17 (isSplice (e .kind)) (Splice i) v tt (bend-up-to-17 i (valueOn (methodOf (e .method)) c (placeIn e)) (value-up-to-15 (methodOf (e .method)) c (placeIn e)))))
 
 -- ---- the verdict
-sound-with17 : (total : ℕ) (count : ℕ → ℕ) (r : Ruling) → Sound r → Sound (with17 total count r)
-sound-with17 total count (Bend i n) h = go (meets17 total (count i) n)
+with17-up-to-17 : (total : ℕ) (count : ℕ → ℕ) (r : Ruling) → UpTo17 r → UpTo17 (with17 total count r)
+with17-up-to-17 total count (Bend i n) h = go (meets17 total (count i) n)
   where
-    go : (b : Bool) → Sound (cond b (Refused 17) (Bend i n))
+    go : (b : Bool) → UpTo17 (cond b (Refused 17) (Bend i n))
     go true = omega arith
     go false = tt
-sound-with17 total count (Splice i) h = h
-sound-with17 total count (Refused k) h = h
+with17-up-to-17 total count (Splice i) h = h
+with17-up-to-17 total count (Refused k) h = h
 
-pub sound-verdict : (c : Chart) (b : Book) (e : Entry) → Sound (bookVerdict (onTables c) [] b e)
-sound-verdict c b e = sound-with17 (totalWear b) (countOf b) (entryRuling (onTables c) (b .sections) [] e) (sound-ruling c (b .sections) e)
+pub verdict-up-to-17 : (c : Chart) (b : Book) (e : Entry) → UpTo17 (bookVerdict (onTables c) [] b e)
+verdict-up-to-17 c b e = with17-up-to-17 (totalWear b) (countOf b) (entryRuling (onTables c) (b .sections) [] e) (ruling-up-to-17 c (b .sections) e)
 
 -- what 17 lets pass fits the book
 with17-fits : {b : Book} → ValidBook b → (r : Ruling) → Known (b .sections) r → Changeable b (with17 (totalWear b) (countOf b) r)

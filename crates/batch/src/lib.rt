@@ -19,7 +19,7 @@ ghost use Rattle.book.specs.Books.{ValidBook, totalWear, countOf};
 ghost use Rattle.entries.specs.Entry.{EntryWidth};
 ghost use Rattle.entries.specs.declared.Ruling.the-variants.{Bend};
 ghost use Rattle.entries.specs.Ruling.{with17};
-ghost use Rattle.accounts.specs.Rulings.{Known, charged, located, entryRuling};
+ghost use Rattle.accounts.specs.Rulings.{Known, charged, bendRuling, entryRuling};
 ghost use Rattle.accounts.specs.Batch.{bookChange};
 ghost use Rattle.batch.specs.Tables.{onTables, Changeable, stepOf, worked, workedOf};
 
@@ -49,7 +49,7 @@ fn located_bend(
     q: Place,
 ) -> Ruling
     requires { ⌜ Accepted (chartOf (now vertices) (now edges) (now faces)) ⌝ ∗ ⌜ OnGrid q ⌝ }
-    ensures { λ r. ⌜ r ≡ located section (locatedValue method (chartOf (now (vertices .entry)) (now (edges .entry)) (now (faces .entry))) q) ⌝ }
+    ensures { λ r. ⌜ r ≡ bendRuling section (locatedValue method (chartOf (now (vertices .entry)) (now (edges .entry)) (now (faces .entry))) q) ⌝ }
 {
     match values::located_value(vertices, edges, faces, method, q) {
         InterpolatedValue::Value(v) => charged_bend(section, v),

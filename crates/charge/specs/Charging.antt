@@ -46,10 +46,6 @@ rounded (fin true m e) = 0
 abbrev pub chargeOf : Float → Charged
 chargeOf v = cond (offScale v) (Refused 16) (Whole (rounded v))
 
--- a refused entry's answer is 2,000,000 plus the number
-abbrev pub RefusedEntry : ℕ
-RefusedEntry = 2000000
-
 -- by cases
 abbrev pub chargeCase : {A : Type 0} → (ℕ → A) → (ℕ → A) → Charged → A
 chargeCase whole refused (Whole n) = whole n

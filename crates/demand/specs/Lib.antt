@@ -1,1 +1,1 @@
-pub mod Season
+pub mod Demand

@@ -1,10 +1,10 @@
-// Demand 3 of the public calls: specs/Season.antt. Below, a function that makes such calls; what it promises is read off the theorem.
+// Demand 3 of the public calls: specs/Demand.antt. Below, a function that makes such calls; what it promises is read off the theorem.
 use book::Book;
 use entries::ENTRY_WIDTH;
 ghost use Prim.Native.Nat.{_≤_};
 ghost use lib.ListN.{length};
 ghost use Rattle.book.specs.Books.{SectionMax};
-ghost use Rattle.demand.specs.Season.{Divisible, Alike};
+ghost use Rattle.demand.specs.Demand.{Divisible, Alike};
 
 // The books of a log worked as one batch, and as two.
 pub struct Both {

@@ -2,7 +2,6 @@
 use mathlib.Core.Bool.{Bool, cond, _||_}
 use Prim.Native.Nat.{ℕ, _+_, _≤_}
 use lib.Dec.{ltb, eqb}
-use Rattle.charge.specs.Charging.{RefusedEntry}
 use Rattle.book.specs.Books.{Limit}
 use Rattle.entries.specs.declared.Ruling.{Ruling}
 use Rattle.entries.specs.declared.Ruling.the-variants.{Bend, Splice, Refused}
@@ -17,7 +16,11 @@ with17 total count (Bend i n) = cond (meets17 total (count i) n) (Refused 17) (B
 with17 total count (Splice i) = Splice i
 with17 total count (Refused k) = Refused k
 
--- an accepted bend answers n, a splice 0; a refused entry's answer is 2,000,000 plus the number
+-- a refused entry's answer is 2,000,000 plus the number
+abbrev pub RefusedEntry : ℕ
+RefusedEntry = 2000000
+
+-- an accepted bend answers n, a splice 0
 abbrev pub answerOf : Ruling → ℕ
 answerOf (Bend i n) = n
 answerOf (Splice i) = 0
@@ -27,7 +30,7 @@ answerOf (Refused k) = RefusedEntry + k
 abbrev pub LastRefusal : ℕ
 LastRefusal = 17
 
-abbrev pub Sound : Ruling → Type 0
-Sound (Bend i n) = Unit {0}
-Sound (Splice i) = Unit {0}
-Sound (Refused k) = k ≤ LastRefusal
+abbrev pub UpTo17 : Ruling → Type 0
+UpTo17 (Bend i n) = Unit {0}
+UpTo17 (Splice i) = Unit {0}
+UpTo17 (Refused k) = k ≤ LastRefusal

@@ -5,7 +5,7 @@ ghost use mathlib.Core.Path.{_≡_};
 ghost use Prim.Native.Nat.{_≤_, _<_, _+_, _^_};
 ghost use lib.ListN.{length};
 ghost use Rattle.entries.specs.Entry.{EntryWidth, entryAt, untidy, unknownKind, unknown, placeIn};
-ghost use Rattle.entries.specs.Ruling.{Sound, answerOf, meets17};
+ghost use Rattle.entries.specs.Ruling.{UpTo17, answerOf, meets17};
 
 // How many numbers an entry has (`EntryWidth`), and what a refused entry's answer is above (`RefusedEntry`).
 pub const ENTRY_WIDTH: usize = 5;
@@ -100,7 +100,7 @@ pub fn is_full(total: u64, count: u64, n: u64) -> bool
 
 // What the batch answers.
 pub fn answer_of(ruling: Ruling) -> u64
-    requires { ⌜ Sound ruling ⌝ }
+    requires { ⌜ UpTo17 ruling ⌝ }
     ensures { λ r. ⌜ r ≡ answerOf ruling ⌝ }
 {
     match ruling {

@@ -25,7 +25,7 @@ use Rattle.entries.specs.declared.Ruling.{Ruling}
 use Rattle.entries.specs.declared.Ruling.the-variants as R
 use Rattle.entries.specs.Entry.{entriesOf, isSplice, unknown, placeIn}
 use Rattle.entries.specs.Ruling.{with17, answerOf}
-use Rattle.accounts.specs.Rulings.{Queries, located, entryRuling}
+use Rattle.accounts.specs.Rulings.{Queries, bendRuling, entryRuling}
 use Rattle.accounts.specs.Batch.{bookVerdict, bookChange, bookAfter, answersFrom, overlay, badSlices, Outcome, byRefusal, batchOf}
 use Rattle.batch.specs.Tables.{onTables}
 use Rattle.estivolh.specs.Value.{valueIn}
@@ -66,7 +66,7 @@ module _ (P Q : Queries) (x y : List ℕ) (same : P x ≡ Q y) where
   same-ruling s e =
       ap (λ (g : ℤ → Place → InterpolatedValue). cond (unknown s e) (R.Refused 12)
       (cond (offGrid (placeIn e)) (R.Refused 13)
-      (cond (isSplice (e .kind)) (R.Splice (unsigned (e .section))) (located (unsigned (e .section)) (g (e .method) (placeIn e)))))) same
+      (cond (isSplice (e .kind)) (R.Splice (unsigned (e .section))) (bendRuling (unsigned (e .section)) (g (e .method) (placeIn e)))))) same
 
   same-verdict : (b : Book) (e : Entry) → bookVerdict P x b e ≡ bookVerdict Q y b e
   same-verdict b e = ap (with17 (totalWear b) (countOf b)) (same-ruling (b .sections) e)

@@ -77,43 +77,43 @@ value-turned zero m c q l e = absurd (e refl)
 value-turned (suc n) m c q l e = refl
 
 -- ---- laws: the refusals of a value are at most 15
-abbrev pub Few : InterpolatedValue → Type 0
-Few (Value v) = Unit {0}
-Few (Refused k) = k ≤ 15
+abbrev pub UpTo15 : InterpolatedValue → Type 0
+UpTo15 (Value v) = Unit {0}
+UpTo15 (Refused k) = k ≤ 15
 
-few-cond : (b : Bool) (x y : InterpolatedValue) → Few x → Few y → Few (cond b x y)
-few-cond true x y f g = f
-few-cond false x y f g = g
+cond-up-to-15 : (b : Bool) (x y : InterpolatedValue) → UpTo15 x → UpTo15 y → UpTo15 (cond b x y)
+cond-up-to-15 true x y f g = f
+cond-up-to-15 false x y f g = g
 
-few-barycentric : (c : Chart) (q : Place) (l : Location) → Few (barycentricValue c (barycentricAt c q l))
+barycentric-up-to-15 : (c : Chart) (q : Place) (l : Location) → UpTo15 (barycentricValue c (barycentricAt c q l))
 unfolding weighTwo weighThree
-few-barycentric c q (OnVertex v) = tt
-few-barycentric c q (OnEdge h) = tt
-few-barycentric c q (OnFace f) = tt
-few-barycentric c q (OutsideOfConvexHull h) = omega arith
-few-barycentric c q NoPlace = omega arith
+barycentric-up-to-15 c q (OnVertex v) = tt
+barycentric-up-to-15 c q (OnEdge h) = tt
+barycentric-up-to-15 c q (OnFace f) = tt
+barycentric-up-to-15 c q (OutsideOfConvexHull h) = omega arith
+barycentric-up-to-15 c q NoPlace = omega arith
 
-few-shares : (m : ℕ) (c : Chart) (q : Place) (os : List ℕ) (t : Shares) → Few (fromShares m c q os t)
-few-shares m c q os broken = omega arith
-few-shares m c q os (shares ws) = tt
+shares-up-to-15 : (m : ℕ) (c : Chart) (q : Place) (os : List ℕ) (t : Shares) → UpTo15 (fromShares m c q os t)
+shares-up-to-15 m c q os broken = omega arith
+shares-up-to-15 m c q os (shares ws) = tt
 
-few-at : (m : ℕ) (c : Chart) (q : Place) (l : Location) → Few (valueAt m c q l)
-few-at m c q l =
-    few-cond (eqb m 1) (barycentricValue c (barycentricAt c q l)) (naturalValue m c q (neighborsOf c q l .edges)) (few-barycentric c q l)
-    (few-shares m c q (map (c .origin) (neighborsOf c q l .edges)) (sharesOf c q (neighborsOf c q l .edges)))
+at-up-to-15 : (m : ℕ) (c : Chart) (q : Place) (l : Location) → UpTo15 (valueAt m c q l)
+at-up-to-15 m c q l =
+    cond-up-to-15 (eqb m 1) (barycentricValue c (barycentricAt c q l)) (naturalValue m c q (neighborsOf c q l .edges)) (barycentric-up-to-15 c q l)
+    (shares-up-to-15 m c q (map (c .origin) (neighborsOf c q l .edges)) (sharesOf c q (neighborsOf c q l .edges)))
 
-few-from : (m : ℕ) (c : Chart) (q : Place) (l : Location) → Few (valueFrom (placeRefusal l) m c q l)
-few-from m c q (OnVertex v) = few-at m c q (OnVertex v)
-few-from m c q (OnEdge h) = few-at m c q (OnEdge h)
-few-from m c q (OnFace f) = few-at m c q (OnFace f)
-few-from m c q (OutsideOfConvexHull h) = omega arith
-few-from m c q NoPlace = omega arith
+from-up-to-15 : (m : ℕ) (c : Chart) (q : Place) (l : Location) → UpTo15 (valueFrom (placeRefusal l) m c q l)
+from-up-to-15 m c q (OnVertex v) = at-up-to-15 m c q (OnVertex v)
+from-up-to-15 m c q (OnEdge h) = at-up-to-15 m c q (OnEdge h)
+from-up-to-15 m c q (OnFace f) = at-up-to-15 m c q (OnFace f)
+from-up-to-15 m c q (OutsideOfConvexHull h) = omega arith
+from-up-to-15 m c q NoPlace = omega arith
 
-pub few-refusals : (m : ℕ) (c : Chart) (q : Place) → Few (valueOn m c q)
+pub value-up-to-15 : (m : ℕ) (c : Chart) (q : Place) → UpTo15 (valueOn m c q)
 unfolding valueOn locatedValue
-few-refusals m c q =
-    few-cond (eqb m 0) (Refused 12) (cond (offGrid q) (Refused 13) (locatedValue m c q)) (omega arith)
-    (few-cond (offGrid q) (Refused 13) (locatedValue m c q) (omega arith) (few-from m c q (locationOf c q)))
+value-up-to-15 m c q =
+    cond-up-to-15 (eqb m 0) (Refused 12) (cond (offGrid q) (Refused 13) (locatedValue m c q)) (omega arith)
+    (cond-up-to-15 (offGrid q) (Refused 13) (locatedValue m c q) (omega arith) (from-up-to-15 m c q (locationOf c q)))
 
 -- by a known method, on the grid, the value is that of the location
 pub value-located : (m : ℕ) (c : Chart) (q : Place) → eqb m 0 ≡ false → offGrid q ≡ false → valueOn m c q ≡ locatedValue m c q

@@ -1,6 +1,6 @@
 -- `batch::located_bend` meets its contract: by the value, or the location's refusal. Assumes nothing.
 use mathlib.Core.Path.{sym, ap, _∙_}
-use Rattle.accounts.specs.Rulings.{located}
+use Rattle.accounts.specs.Rulings.{bendRuling}
 use borrow.Author.Needs.{needs}
 use Rattle.batch.proofs.located_bend.Statement.{statement}
 use Rattle.batch.proofs.located_bend.Tie as tie
@@ -20,12 +20,12 @@ enum-known-k c = search needs
 returns : tie.Need-returns
 returns c =
     let s = c .before .before .before .before in
-    c .charged-bend .ensures ∙ sym (ap (located (s .before .before .before .args .section)) (sym (s .located-value .ensures) ∙ c .before .before .v .given .1))
+    c .charged-bend .ensures ∙ sym (ap (bendRuling (s .before .before .before .args .section)) (sym (s .located-value .ensures) ∙ c .before .before .v .given .1))
 
 returns-2 : tie.Need-returns-2
 returns-2 c =
     let s = c .before .before .before in
-    sym (ap (located (s .before .before .before .args .section)) (sym (s .located-value .ensures) ∙ c .before .k .given .1))
+    sym (ap (bendRuling (s .before .before .before .args .section)) (sym (s .located-value .ensures) ∙ c .before .k .given .1))
 
 pub located-bend-spec : {M : Type 1} → statement M
 located-bend-spec =

@@ -14,7 +14,7 @@ use Rattle.chart.specs.Tables.{unsigned}
 use Rattle.values.specs.Value.{methodOf, locatedValue}
 use Rattle.entries.specs.declared.Ruling.the-variants.{Splice}
 use Rattle.entries.specs.Entry.{unknown, placeIn}
-use Rattle.accounts.specs.Rulings.{located}
+use Rattle.accounts.specs.Rulings.{bendRuling}
 use Rattle.batch.specs.Laws.{ruling-unknown, ruling-off-grid, ruling-splice, ruling-bend}
 use borrow.Author.Needs.{needs}
 use Rattle.batch.proofs.ruling.Statement.{statement}
@@ -90,9 +90,9 @@ returns-4 c =
     let m : SFits w64 (a .e .method) = record { sfits = c .before .before .struct-told3 .given .1 .1 .1 .1 .0 .1 } in
     let n : c .before .method-number .result ≡ methodOf (a .e .method) = simp (toZ-ofZ m) at (c .before .method-number .ensures) in
     c .located-bend .ensures
-    ∙ (ap (λ (i : ℕ). located i (locatedValue (c .before .method-number .result) d (p .result))) (section-is s)
-    ∙ (ap (λ (i : ℕ). located (unsigned (a .e .section)) (locatedValue i d (p .result))) n
-    ∙ (ap (λ (x : Place). located (unsigned (a .e .section)) (locatedValue (methodOf (a .e .method)) d x)) (p .ensures)
+    ∙ (ap (λ (i : ℕ). bendRuling i (locatedValue (c .before .method-number .result) d (p .result))) (section-is s)
+    ∙ (ap (λ (i : ℕ). bendRuling (unsigned (a .e .section)) (locatedValue i d (p .result))) n
+    ∙ (ap (λ (x : Place). bendRuling (unsigned (a .e .section)) (locatedValue (methodOf (a .e .method)) d x)) (p .ensures)
     ∙ sym (ruling-bend d (a .sections) (a .e) (passed (t .before .before .before)) (place-test (t .before) ∙ t .if2 .left) (bits-false k two (u .if3 .left))))))
 
 pub ruling-spec : {M : Type 1} → statement M

@@ -6,12 +6,12 @@ use Rattle.chart.specs.Chart.{chartOf}
 use Rattle.book.specs.declared.Book.{Book}
 use Rattle.book.specs.Books.{totalWear, countOf}
 use Rattle.entries.specs.declared.Ruling.{Ruling}
-use Rattle.entries.specs.Ruling.{Sound, with17, answerOf}
+use Rattle.entries.specs.Ruling.{UpTo17, with17, answerOf}
 use Rattle.accounts.specs.Rulings.{Known, known}
 use Rattle.accounts.specs.Batch.{bookVerdict, bookChange}
 use Rattle.batch.specs.declared.Step.{Step}
 use Rattle.batch.specs.Tables.{onTables, Changeable}
-use Rattle.batch.specs.Laws.{sound-verdict, verdict-fits}
+use Rattle.batch.specs.Laws.{verdict-up-to-17, verdict-fits}
 use borrow.Author.Needs.{needs}
 use Rattle.batch.proofs.work_entry.Statement.{statement}
 use Rattle.batch.proofs.work_entry.Tie as tie
@@ -35,7 +35,7 @@ verdict-requires c κs =
 answer-of-requires : tie.Need-answer-of-requires
 answer-of-requires c κs =
     let a = c .before .before .before .before .args in
-    subst Sound (sym (verdict-is c)) (sound-verdict (chartOf (a .vertices .now) (a .edges .now) (a .faces .now)) (a .book) (a .e))
+    subst UpTo17 (sym (verdict-is c)) (verdict-up-to-17 (chartOf (a .vertices .now) (a .edges .now) (a .faces .now)) (a .book) (a .e))
 
 changed-requires : tie.Need-changed-requires
 changed-requires c κs =

@@ -11,7 +11,7 @@ use Rattle.book.specs.declared.Returned.{Returned}
 use Rattle.accounts.specs.Batch.{batchOf}
 use Rattle.accounts.specs.Demand.{fresh}
 use Rattle.estivolh.specs.Account.{queries}
-use Rattle.demand.specs.Season.{alike}
+use Rattle.demand.specs.Demand.{alike}
 use borrow.Author.Needs.{needs}
 use Rattle.demand.proofs.both_ways.Statement.{statement}
 use Rattle.demand.proofs.both_ways.Tie as tie

@@ -2,7 +2,7 @@
 use mathlib.Core.Path.{sym, ap, subst}
 use Prim.Native.Nat.{_≤_}
 use native.Mathlib.Omega.{arith}
-use Rattle.entries.specs.Ruling.{Sound, LastRefusal, answerOf}
+use Rattle.entries.specs.Ruling.{UpTo17, LastRefusal, answerOf}
 use borrow.Author.Needs.{needs}
 use Rattle.entries.proofs.answer_of.Statement.{statement}
 use Rattle.entries.proofs.answer_of.Tie as tie
@@ -18,7 +18,7 @@ enum-known-ruling-2 c = search needs
 
 add-result : tie.Need-add-result
 add-result c =
-    let l : c .before .ruling2 .given .0 .0 ≤ LastRefusal = subst Sound (c .before .ruling2 .given .1) (c .before .before .before .pre) in
+    let l : c .before .ruling2 .given .0 .0 ≤ LastRefusal = subst UpTo17 (c .before .ruling2 .given .1) (c .before .before .before .pre) in
     record { fits = omega arith }
 
 returns : tie.Need-returns
