@@ -19,7 +19,7 @@ pub struct LogRead {
 }
 
 // Room for the numbers of the longest log.
-fn entry_room() -> [i64; 2560]
+pub fn entry_room() -> [i64; 2560]
     ensures { λ r. ⌜ length r ≡ entryFields * entriesMax ⌝ }
 {
     [0i64; 2560]

@@ -1,19 +1,13 @@
 // What 01's program prints for a chart and a log, as functions on slices.
 use entries::ENTRY_WIDTH;
 ghost use mathlib.Core.Path.{_≡_};
-ghost use Prim.Native.Nat.{_*_, _≤_};
+ghost use Prim.Native.Nat.{_≤_};
 ghost use lib.ListN.{length};
 ghost use Rattle.reading.specs.Reading.{chartRefusalOf};
-ghost use Rattle.log.specs.Log.{entryFields, entriesMax};
+ghost use Rattle.log.specs.Log.{entriesMax};
 ghost use Rattle.program.specs.Program.{outputMax, ranOf, printedOf, Printed, WholeEntries};
 
-// Room for the numbers and the answers of the longest log.
-fn entry_room() -> [i64; 2560]
-    ensures { λ r. ⌜ length r ≡ entryFields * entriesMax ⌝ }
-{
-    [0i64; 2560]
-}
-
+// Room for the answers of the longest log.
 fn answer_room() -> [u64; 512]
     ensures { λ r. ⌜ length r ≡ entriesMax ⌝ }
 {
@@ -42,7 +36,7 @@ pub fn print(chart: &[u8], size: usize, log: &[u8], out: &mut [u8]) -> usize
     if refusal != 0 {
         return report::put_refusal(out, refusal);
     }
-    let mut entries = entry_room();
+    let mut entries = log::entry_room();
     let read = log::read_log(size, log, &mut entries);
     if read.refusal != 0 {
         return report::put_refusal(out, read.refusal);
