@@ -2,6 +2,7 @@
 ghost use mathlib.Core.Path.{_≡_};
 ghost use Prim.Native.Nat.{_≤_, _%_};
 ghost use lib.ListN.{length};
+ghost use Rattle.chart.specs.Limits.{MostVertices};
 ghost use Rattle.chart.specs.Tables.{rows, unsignedAll};
 ghost use Rattle.chart.specs.Chart.{chartOf, InRange};
 ghost use Rattle.checks.specs.Checks.{chartRefusal, tablesRefusal, told};
@@ -20,7 +21,7 @@ fn take_over(signed: &[i64], table: &mut [usize])
 
 // 7 to 11, or 0, of a chart whose numbers are in range.
 fn chart_refusal(vertices: &[i64], edges: &[usize], faces: &[usize]) -> u64
-    requires { ⌜ InRange (chartOf (now vertices) (now edges) (now faces)) ⌝ ∗ ⌜ rows (now vertices) ≤ 128 ⌝ }
+    requires { ⌜ InRange (chartOf (now vertices) (now edges) (now faces)) ⌝ ∗ ⌜ rows (now vertices) ≤ MostVertices ⌝ }
     ensures { λ r. ⌜ r ≡ chartRefusal (chartOf (now (vertices .entry)) (now (edges .entry)) (now (faces .entry))) ⌝ }
 {
     if links::links_broken(vertices, edges, faces) {
@@ -49,7 +50,7 @@ pub fn tables_refusal(
     edges: &mut [usize],
     faces: &mut [usize],
 ) -> u64
-    requires { ⌜ rows (now vertices) ≤ 128 ⌝ ∗ ⌜ rows (now edgecells) % 2 ≡ 0 ⌝ ∗ ⌜ length (now edges) ≡ length (now edgecells) ⌝ ∗ ⌜ length (now faces) ≡ length (now facecells) ⌝ }
+    requires { ⌜ rows (now vertices) ≤ MostVertices ⌝ ∗ ⌜ rows (now edgecells) % 2 ≡ 0 ⌝ ∗ ⌜ length (now edges) ≡ length (now edgecells) ⌝ ∗ ⌜ length (now faces) ≡ length (now facecells) ⌝ }
     ensures { λ r. ⌜ told (tablesRefusal (now (vertices .entry)) (now (edgecells .entry)) (now (facecells .entry))) (now (vertices .entry)) (unsignedAll (now (edgecells .entry))) (unsignedAll (now (facecells .entry))) ≡ told r (now (vertices .entry)) (now (edges .exit)) (now (faces .exit)) ⌝ }
 {
     if ranges::out_of_range(vertices, edgecells, facecells) {

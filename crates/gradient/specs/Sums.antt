@@ -12,6 +12,7 @@ use lib.Signed.{ltZ}
 use lib.Ieee.{Float, lt, neg}
 use Rattle.whole.specs.Bound.{Within, add-in, sub-in, mul-in, widen, up-to}
 use Rattle.whole.specs.Test.{eqZ}
+use Rattle.chart.specs.Limits.{MostHalfEdges}
 use Rattle.chart.specs.Chart.{Chart, partner, InRange, partner-in}
 use Rattle.ranges.specs.Ranges.{ValueMax}
 use Rattle.points.specs.Floats.{f0, _+f_, _-f_, _*f_, _/f_, realOf, Exact}
@@ -76,10 +77,6 @@ unfoldable pub wholeGradient : Vector → Gradient
 wholeGradient n = cond (eqZ (n .z) (pos 0)) (record { x = f0; y = f0 }) (quotients n)
 
 -- ---- bounds
--- row 4: half-edges at most
-abbrev pub HalfEdgesMax : ℕ
-HalfEdgesMax = 756
-
 -- coordinates are within the values' bound too: a component of a difference, and of a normal
 abbrev Leg : ℕ
 Leg = ValueMax + ValueMax
@@ -105,7 +102,7 @@ upto-more : {k m : ℕ} {s : Vector} → Upto k s → k ≤ m → Upto m s
 upto-more u l = record { x-in = wider (u .x-in) l; y-in = wider (u .y-in) l; z-in = wider (u .z-in) l }
 
 -- as many normals as there are half-edges sum up to what f64 has exactly
-fine : {k : ℕ} {z : ℤ} → Within (k * Most) z → k ≤ HalfEdgesMax → Within Exact z
+fine : {k : ℕ} {z : ℤ} → Within (k * Most) z → k ≤ MostHalfEdges → Within Exact z
 fine h l = widen (wider h l) tt
 
 -- ---- one normal is exact
@@ -160,13 +157,13 @@ module _ (v p q : Vector) (v-in : Spotted v) (p-in : Spotted p) (q-in : Spotted 
       }
 
 -- ---- and so is a sum of them
-add-exact : (s : Vector) (k : ℕ) (n : Vector3) (m : Vector) → k ≤ HalfEdgesMax → Upto k s → Exactly n m → Upto 1 m → addNormal (realsOf s) n ≡ realsOf (wholeAdd s m)
+add-exact : (s : Vector) (k : ℕ) (n : Vector3) (m : Vector) → k ≤ MostHalfEdges → Upto k s → Exactly n m → Upto 1 m → addNormal (realsOf s) n ≡ realsOf (wholeAdd s m)
 unfolding addNormal
 add-exact s k n m l u w i =
-    let test : lt f0 (n .z) ≡ ltZ (pos 0) (m .z) = ap (λ (f : Float). lt f (n .z)) zero-is ∙ lt-exact (of-int (pos 0)) (w .z) (record { abs = omega arith }) (fine (i .z-in) (leb→le 1 HalfEdgesMax tt)) in
-    let ex : realOf (s .x) +f n .x ≡ realOf (s .x +ℤ m .x) = plus-exact (s .x) (w .x) (fine (u .x-in) l) (fine (i .x-in) (leb→le 1 HalfEdgesMax tt)) in
-    let ey : realOf (s .y) +f n .y ≡ realOf (s .y +ℤ m .y) = plus-exact (s .y) (w .y) (fine (u .y-in) l) (fine (i .y-in) (leb→le 1 HalfEdgesMax tt)) in
-    let ez : realOf (s .z) +f n .z ≡ realOf (s .z +ℤ m .z) = plus-exact (s .z) (w .z) (fine (u .z-in) l) (fine (i .z-in) (leb→le 1 HalfEdgesMax tt)) in
+    let test : lt f0 (n .z) ≡ ltZ (pos 0) (m .z) = ap (λ (f : Float). lt f (n .z)) zero-is ∙ lt-exact (of-int (pos 0)) (w .z) (record { abs = omega arith }) (fine (i .z-in) (leb→le 1 MostHalfEdges tt)) in
+    let ex : realOf (s .x) +f n .x ≡ realOf (s .x +ℤ m .x) = plus-exact (s .x) (w .x) (fine (u .x-in) l) (fine (i .x-in) (leb→le 1 MostHalfEdges tt)) in
+    let ey : realOf (s .y) +f n .y ≡ realOf (s .y +ℤ m .y) = plus-exact (s .y) (w .y) (fine (u .y-in) l) (fine (i .y-in) (leb→le 1 MostHalfEdges tt)) in
+    let ez : realOf (s .z) +f n .z ≡ realOf (s .z +ℤ m .z) = plus-exact (s .z) (w .z) (fine (u .z-in) l) (fine (i .z-in) (leb→le 1 MostHalfEdges tt)) in
     rw (test, ex, ey, ez) (choose (ltZ (pos 0) (m .z)))
   where
     choose : (b : Bool) → cond b (realsOf (wholePlus s m)) (realsOf s) ≡ realsOf (cond b (wholePlus s m) s)
@@ -199,10 +196,10 @@ module _ (c : Chart) (r : InRange c) (values : Valued c) where
     wholeSum s last hs = overPairs (wholePair (wholeSpot c v)) (wholeEnd c start) s last (map (wholeEnd c) hs)
 
     Same : Vector → Vector → List ℕ → Type 0
-    Same s last hs = (realSum s last hs ≡ realsOf (wholeSum s last hs)) × Upto HalfEdgesMax (wholeSum s last hs)
+    Same s last hs = (realSum s last hs ≡ realsOf (wholeSum s last hs)) × Upto MostHalfEdges (wholeSum s last hs)
 
     -- one pair
-    pair-exact : (k : ℕ) (s p q : Vector) → k < HalfEdgesMax → Upto k s → Spotted p → Spotted q → addPair (spotOf c v) (realsOf s) (realsOf p) (realsOf q) ≡ realsOf (wholePair (wholeSpot c v) s p q)
+    pair-exact : (k : ℕ) (s p q : Vector) → k < MostHalfEdges → Upto k s → Spotted p → Spotted q → addPair (spotOf c v) (realsOf s) (realsOf p) (realsOf q) ≡ realsOf (wholePair (wholeSpot c v) s p q)
     pair-exact k s p q l u i j =
         add-exact s k _ _ (le-of-lt l) u (normal-exact (wholeSpot c v) p q (spotted v v-in) i j) (normal-in (wholeSpot c v) p q (spotted v v-in) i j)
 
@@ -210,13 +207,13 @@ module _ (c : Chart) (r : InRange c) (values : Valued c) where
     pair-upto k s p q u i j = add-upto s k _ u (normal-in (wholeSpot c v) p q (spotted v v-in) i j)
 
     -- the last with the first
-    close : (k : ℕ) (s last : Vector) → k < HalfEdgesMax → Upto k s → Spotted last → Same s last []
+    close : (k : ℕ) (s last : Vector) → k < MostHalfEdges → Upto k s → Spotted last → Same s last []
     unfolding overPairs realSum wholeSum Same
     close k s last l u i =
         (pair-exact k s last (wholeEnd c start) l u i (end-spotted start start-in), upto-more (pair-upto k s last (wholeEnd c start) u i (end-spotted start start-in)) (omega arith))
 
     -- one half-edge more
-    on : (k h : ℕ) (s last : Vector) (hs : List ℕ) → k < HalfEdgesMax → h < c .halfEdges → Upto k s → Spotted last → Same (wholePair (wholeSpot c v) s last (wholeEnd c h)) (wholeEnd c h) hs → Same s last (h ∷ hs)
+    on : (k h : ℕ) (s last : Vector) (hs : List ℕ) → k < MostHalfEdges → h < c .halfEdges → Upto k s → Spotted last → Same (wholePair (wholeSpot c v) s last (wholeEnd c h)) (wholeEnd c h) hs → Same s last (h ∷ hs)
     unfolding overPairs realSum wholeSum Same
     on k h s last hs l m u i (e, b) =
         (ap (λ (t : Vector3). overPairs (addPair (spotOf c v)) (endSpot c start) t (endSpot c h) (map (endSpot c) hs)) (pair-exact k s last (wholeEnd c h) l u i (end-spotted h m)) ∙ e, b)
@@ -225,7 +222,7 @@ module _ (c : Chart) (r : InRange c) (values : Valued c) where
     either true s last hs x y = x
     either false s last hs x y = y
 
-    turn-exact : (n h k : ℕ) (s last : Vector) → k + n < HalfEdgesMax → h < c .halfEdges → Upto k s → Spotted last → Same s last (turn c start n h)
+    turn-exact : (n h k : ℕ) (s last : Vector) → k + n < MostHalfEdges → h < c .halfEdges → Upto k s → Spotted last → Same s last (turn c start n h)
     unfolding turn
     turn-exact zero h k s last l m u i = close k s last (omega arith) u i
     turn-exact (suc n) h k s last l m u i =
@@ -240,14 +237,14 @@ pub record ExactSums (c : Chart) (v : ℕ) : Type 0 where
   pub y-in : Within Exact (normalSums c v .y)
   pub z-in : Within Exact (normalSums c v .z)
 
-pub sums-exact : (c : Chart) → InRange c → Valued c → c .halfEdges ≤ HalfEdgesMax → (v : ℕ) → v < c .vertices → ExactSums c v
+pub sums-exact : (c : Chart) → InRange c → Valued c → c .halfEdges ≤ MostHalfEdges → (v : ℕ) → v < c .vertices → ExactSums c v
 unfolding realSum wholeSum Same
 sums-exact c r values few v l =
     let s = c .out v in
     let m = r .outs v l in
     let nothing : Upto 0 (record { x = pos 0; y = pos 0; z = pos 0 }) = record { x-in = record { abs = omega arith }; y-in = record { abs = omega arith }; z-in = record { abs = omega arith } } in
     let t = turn-exact c r values v s l m (c .halfEdges - 1) (ccw c s) 0 (record { x = pos 0; y = pos 0; z = pos 0 }) (wholeEnd c s) (omega arith) (ccw-in r s m) nothing (end-spotted c r values s m) in
-    let all = leb→le HalfEdgesMax HalfEdgesMax tt in
+    let all = leb→le MostHalfEdges MostHalfEdges tt in
     record { same = rw zero-is (t .0); x-in = fine (t .1 .x-in) all; y-in = fine (t .1 .y-in) all; z-in = fine (t .1 .z-in) all }
 
 from-exact : (n : Vector) → Within Exact (n .z) → gradientFrom (realsOf n) ≡ wholeGradient n
@@ -259,7 +256,7 @@ from-exact n i = rw (ne-exact (of-int (n .z)) i) (choose (eqZ (n .z) (pos 0)) _ 
     choose false x y = refl
 
 -- so the gradient is two rounded divisions of whole numbers
-pub gradient-exact : (c : Chart) → InRange c → Valued c → c .halfEdges ≤ HalfEdgesMax → (v : ℕ) → v < c .vertices → gradientOf c v ≡ wholeGradient (normalSums c v)
+pub gradient-exact : (c : Chart) → InRange c → Valued c → c .halfEdges ≤ MostHalfEdges → (v : ℕ) → v < c .vertices → gradientOf c v ≡ wholeGradient (normalSums c v)
 gradient-exact c r values few v l =
     let e = sums-exact c r values few v l in
     ap gradientFrom (e .same) ∙ from-exact (normalSums c v) (e .z-in)

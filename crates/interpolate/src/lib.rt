@@ -5,6 +5,7 @@ ghost use mathlib.Core.Path.{_≡_};
 ghost use Prim.Native.Nat.{_≤_, _<_};
 ghost use lib.ListN.{length};
 ghost use Rattle.geometry.specs.Plane.{OnGrid};
+ghost use Rattle.chart.specs.Limits.{MostHalfEdges};
 ghost use Rattle.chart.specs.Tables.{rows};
 ghost use Rattle.chart.specs.Chart.{chartOf, InRange};
 ghost use Rattle.gradient.specs.Gradient.{Valued};
@@ -106,7 +107,7 @@ pub fn value_blend(
     weights: &[f64],
 ) -> f64
     requires { ⌜ InRange (chartOf (now vertices) (now edges) (now faces)) ⌝ ∗ ⌜ Valued (chartOf (now vertices) (now edges) (now faces)) ⌝ ∗ ⌜ OnGrid q ⌝ }
-    requires { ⌜ Owners (chartOf (now vertices) (now edges) (now faces)) (now owners) ⌝ ∗ ⌜ length (now owners) ≡ length (now weights) ⌝ ∗ ⌜ length (now owners) ≤ 756 ⌝ }
+    requires { ⌜ Owners (chartOf (now vertices) (now edges) (now faces)) (now owners) ⌝ ∗ ⌜ length (now owners) ≡ length (now weights) ⌝ ∗ ⌜ length (now owners) ≤ MostHalfEdges ⌝ }
     ensures { λ r. ⌜ r ≡ valueBlend (chartOf (now (vertices .entry)) (now (edges .entry)) (now (faces .entry))) q (now (owners .entry)) (now (weights .entry)) ⌝ }
 {
     let mut sums = Blend::new();

@@ -4,6 +4,7 @@ ghost use Prim.Native.Nat.{_<_, _≤_};
 ghost use mathlib.Core.Bool.{false};
 ghost use lib.ListN.{length, replicate};
 ghost use Rattle.whole.specs.First.{some};
+ghost use Rattle.chart.specs.Limits.{MostVertices};
 ghost use Rattle.chart.specs.Tables.{rows};
 ghost use Rattle.chart.specs.Chart.{chartOf, InRange};
 ghost use Rattle.links.specs.Links.{nextStarts, endsDiffer, prevNext, nextPrev, keepsFace, threeNexts, ofItsFace, linked, unlinked, outStarts, strayOut, adjacentHas, strayAdjacent, leavesAgain, linksBroken};
@@ -172,14 +173,14 @@ fn some_stray_adjacent(vertices: &[i64], edges: &[usize], faces: &[usize]) -> bo
 
 // The empty set of vertices.
 fn no_vertex() -> [bool; 128]
-    ensures { λ r. ⌜ r ≡ replicate 128 false ⌝ }
+    ensures { λ r. ⌜ r ≡ replicate MostVertices false ⌝ }
 {
     [false; 128]
 }
 
 // Whether two outer half-edges leave one vertex: the set of the vertices that one has left is kept beside the scan.
 fn some_leaves_again(vertices: &[i64], edges: &[usize], faces: &[usize]) -> bool
-    requires { ⌜ InRange (chartOf (now vertices) (now edges) (now faces)) ⌝ ∗ ⌜ rows (now vertices) ≤ 128 ⌝ }
+    requires { ⌜ InRange (chartOf (now vertices) (now edges) (now faces)) ⌝ ∗ ⌜ rows (now vertices) ≤ MostVertices ⌝ }
     ensures { λ r. ⌜ r ≡ some (leavesAgain (chartOf (now (vertices .entry)) (now (edges .entry)) (now (faces .entry)))) (rows (now (edges .entry))) ⌝ }
 {
     let n = edges.len() / 4;
@@ -200,7 +201,7 @@ fn some_leaves_again(vertices: &[i64], edges: &[usize], faces: &[usize]) -> bool
 
 // 7: links broken.
 pub fn links_broken(vertices: &[i64], edges: &[usize], faces: &[usize]) -> bool
-    requires { ⌜ InRange (chartOf (now vertices) (now edges) (now faces)) ⌝ ∗ ⌜ rows (now vertices) ≤ 128 ⌝ }
+    requires { ⌜ InRange (chartOf (now vertices) (now edges) (now faces)) ⌝ ∗ ⌜ rows (now vertices) ≤ MostVertices ⌝ }
     ensures { λ r. ⌜ r ≡ linksBroken (chartOf (now (vertices .entry)) (now (edges .entry)) (now (faces .entry))) ⌝ }
 {
     if some_unlinked(vertices, edges, faces) {

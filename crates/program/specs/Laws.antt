@@ -10,7 +10,7 @@ use lib.ListN.{length, take, drop, length-append, length-drop, take-append-drop,
 use lib.Seq.{take-all, take-append-le, drop-append-le, length-take-le}
 use Rattle.text.specs.Field.{fieldWidth, fieldOf}
 use Rattle.tables.specs.Table.{given, join, cellOf, lineBytes, lineOf}
-use Rattle.ranges.specs.Ranges.{MostVertices, MostHalfEdges, MostFaces}
+use Rattle.chart.specs.Limits.{MostVertices, MostHalfEdges, MostFaces}
 use Rattle.reading.specs.declared.Head.{Head}
 use Rattle.reading.specs.declared.Head.the-variants.{Refused, Counts}
 use Rattle.reading.specs.Reading.{headLength, headLine, headOf, fileLength, bodyOf, loadOf, chartIn, chartRefusalOf}

@@ -12,9 +12,10 @@ use Rattle.whole.specs.Bools.{or-false}
 use Rattle.whole.specs.Bound.{outside}
 use Rattle.whole.specs.First.{some, none-at}
 use Rattle.geometry.specs.Plane.{offGrid, on-grid}
+use Rattle.chart.specs.Limits.{LeastVertices, MostVertices, LeastHalfEdges, MostHalfEdges, LeastFaces, MostFaces}
 use Rattle.chart.specs.Tables.{rows, unsigned, unsignedAll, placeOf, valueOf}
 use Rattle.chart.specs.Chart.{chartOf, InRange}
-use Rattle.ranges.specs.Ranges.{LeastVertices, MostVertices, LeastHalfEdges, MostHalfEdges, LeastFaces, MostFaces, countsRefused, odd, notBelow, cell, ValueMax, badVertex, badHalfEdge, badFace, outOfRange}
+use Rattle.ranges.specs.Ranges.{countsRefused, odd, notBelow, cell, ValueMax, badVertex, badHalfEdge, badFace, outOfRange}
 
 -- ---- 4
 -- the counts that pass

@@ -9,27 +9,10 @@ use lib.ListN.{length, getD}
 use Rattle.whole.specs.First.{some}
 use Rattle.whole.specs.Bound.{outside}
 use Rattle.geometry.specs.Plane.{offGrid}
+use Rattle.chart.specs.Limits.{LeastVertices, MostVertices, LeastHalfEdges, MostHalfEdges, LeastFaces, MostFaces}
 use Rattle.chart.specs.Tables.{rows, placeOf, valueOf}
 
 -- ---- 4: vertices not 3 to 128; half-edges odd or not 6 to 756; faces not 2 to 252
-abbrev pub LeastVertices : ℕ
-LeastVertices = 3
-
-abbrev pub MostVertices : ℕ
-MostVertices = 128
-
-abbrev pub LeastHalfEdges : ℕ
-LeastHalfEdges = 6
-
-abbrev pub MostHalfEdges : ℕ
-MostHalfEdges = 756
-
-abbrev pub LeastFaces : ℕ
-LeastFaces = 2
-
-abbrev pub MostFaces : ℕ
-MostFaces = 252
-
 abbrev pub odd : ℤ → Bool
 odd z = not (eqb (natAbs z % 2) 0)
 

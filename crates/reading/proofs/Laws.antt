@@ -7,22 +7,22 @@ use native.Mathlib.Omega.{arith}
 use lib.ListN.{length, drop}
 use lib.IntN.{ℤ}
 use borrow.Author.Tests.{lt-ltb, le-ltb, eq-eqb, ne-eqb}
-use Rattle.tables.specs.Table.{Cells, lineOf, tableOf}
+use Rattle.tables.specs.Table.{Cells, lineOf, tableOf, lineBytes}
 use Rattle.tables.specs.Table.Cells.{cells, bad}
 use Rattle.chart.specs.Tables.{unsignedAll}
 use Rattle.checks.specs.Checks.{tablesRefusal, Loaded, told}
 use Rattle.reading.specs.declared.Head.the-variants.{Refused}
-use Rattle.reading.specs.Reading.{headLine, headOf, fileLength, three, bodyOf, saidBody, loadBody, loadOf}
+use Rattle.reading.specs.Reading.{headLength, headLine, headOf, fileLength, three, bodyOf, saidBody, loadBody, loadOf}
 use Rattle.reading.specs.Reading.Body.{malformed}
 
 -- ---- line 1
-pub head-short : (s : List ℕ) → length s < 25 → headOf s ≡ Refused 3
+pub head-short : (s : List ℕ) → length s < headLength → headOf s ≡ Refused 3
 unfolding headOf
-head-short s h = ap (λ (b : Bool). cond b (Refused 3) (headLine (lineOf 3 s))) (lt-ltb (length s) 25 h)
+head-short s h = ap (λ (b : Bool). cond b (Refused 3) (headLine (lineOf 3 s))) (lt-ltb (length s) headLength h)
 
-pub head-line : (s : List ℕ) (c : Cells) → 25 ≤ length s → lineOf 3 s ≡ c → headOf s ≡ headLine c
+pub head-line : (s : List ℕ) (c : Cells) → headLength ≤ length s → lineOf 3 s ≡ c → headOf s ≡ headLine c
 unfolding headOf
-head-line s c h e = ap (λ (b : Bool). cond b (Refused 3) (headLine (lineOf 3 s))) (le-ltb (length s) 25 h) ∙ ap headLine e
+head-line s c h e = ap (λ (b : Bool). cond b (Refused 3) (headLine (lineOf 3 s))) (le-ltb (length s) headLength h) ∙ ap headLine e
 
 -- ---- the rest
 pub body-length : (v e f : ℕ) (s : List ℕ) → (length s ≡ fileLength v e f → ⊥) → bodyOf v e f s ≡ malformed 3
@@ -30,7 +30,7 @@ unfolding bodyOf
 body-length v e f s h = rw (ne-eqb (length s) (fileLength v e f) h) refl
 
 pub body-three : (v e f : ℕ) (s : List ℕ) (a b c : Cells) → length s ≡ fileLength v e f
-    → tableOf 4 v (drop 25 s) ≡ a → tableOf 4 e (drop (25 + 33 * v) s) ≡ b → tableOf 1 f (drop (25 + 33 * v + 33 * e) s) ≡ c → bodyOf v e f s ≡ three a b c
+    → tableOf 4 v (drop headLength s) ≡ a → tableOf 4 e (drop (headLength + lineBytes 4 * v) s) ≡ b → tableOf 1 f (drop (headLength + lineBytes 4 * v + lineBytes 4 * e) s) ≡ c → bodyOf v e f s ≡ three a b c
 unfolding bodyOf
 body-three v e f s a b c h p q r = rw (eq-eqb (length s) (fileLength v e f) h, p, q, r) refl
 
@@ -38,10 +38,10 @@ three-second : (a c : Cells) → three a bad c ≡ malformed 5
 three-second (cells a) c = refl
 three-second bad c = refl
 
-pub body-second : (v e f : ℕ) (s : List ℕ) → length s ≡ fileLength v e f → tableOf 4 e (drop (25 + 33 * v) s) ≡ bad → bodyOf v e f s ≡ malformed 5
+pub body-second : (v e f : ℕ) (s : List ℕ) → length s ≡ fileLength v e f → tableOf 4 e (drop (headLength + lineBytes 4 * v) s) ≡ bad → bodyOf v e f s ≡ malformed 5
 body-second v e f s h q =
-    body-three v e f s (tableOf 4 v (drop 25 s)) bad (tableOf 1 f (drop (25 + 33 * v + 33 * e) s)) h refl q refl
-    ∙ three-second (tableOf 4 v (drop 25 s)) (tableOf 1 f (drop (25 + 33 * v + 33 * e) s))
+    body-three v e f s (tableOf 4 v (drop headLength s)) bad (tableOf 1 f (drop (headLength + lineBytes 4 * v + lineBytes 4 * e) s)) h refl q refl
+    ∙ three-second (tableOf 4 v (drop headLength s)) (tableOf 1 f (drop (headLength + lineBytes 4 * v + lineBytes 4 * e) s))
 
 -- ---- the body read and checked
 pub load-refused : (v e f : ℕ) (s : List ℕ) (r : ℕ) (a b c : List ℤ) (x : List ℤ) (y z : List ℕ) → (r ≡ 0 → ⊥) → bodyOf v e f s ≡ saidBody r a b c → loadOf v e f s ≡ told r x y z

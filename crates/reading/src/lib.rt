@@ -2,10 +2,18 @@
 ghost use mathlib.Core.Path.{_≡_};
 ghost use Prim.Native.Nat.{_+_, _*_, _≤_};
 ghost use lib.ListN.{length, take, drop};
-ghost use Rattle.tables.specs.Table.{lineBytes, tableOf, given};
+ghost use Rattle.tables.specs.Table.{FieldsMax, LinesMax, lineBytes, tableOf, given};
+ghost use Rattle.chart.specs.Limits.{MostVertices, MostHalfEdges, MostFaces};
 ghost use Rattle.ranges.specs.Passed.{Counted};
 ghost use Rattle.checks.specs.Checks.{told};
 ghost use Rattle.reading.specs.Reading.{countsOf, headOf, bodyOf, saidBody, loadOf};
+
+// How many bytes a line has: the first one (`headLength`), a vertex's or half-edge's, a face's.
+const HEAD_BYTES: usize = 25;
+
+const ROW_BYTES: usize = 33;
+
+const FACE_BYTES: usize = 9;
 
 // The counts of a chart's first line, or the refusal that meets it.
 pub enum Head {
@@ -31,7 +39,7 @@ fn counts(v: i64, e: i64, f: i64) -> Head
 pub fn read_head(text: &[u8]) -> Head
     ensures { λ r. ⌜ r ≡ headOf (now (text .entry)) ⌝ }
 {
-    if text.len() < 25 {
+    if text.len() < HEAD_BYTES {
         return Head::Refused(3);
     }
     let mut row = [0i64; 3];
@@ -43,7 +51,7 @@ pub fn read_head(text: &[u8]) -> Head
 
 // A table into the first elements of a slice.
 fn fill(text: &[u8], at: usize, w: usize, n: usize, out: &mut [i64]) -> bool
-    requires { ⌜ (w ≤ 5) × (n ≤ 1000) ⌝ }
+    requires { ⌜ (w ≤ FieldsMax) × (n ≤ LinesMax) ⌝ }
     requires { ⌜ (at + lineBytes w * n ≤ length (now text)) × (w * n ≤ length (now out)) ⌝ }
     ensures { λ r. ⌜ tableOf w n (drop at (now (text .entry))) ≡ given r (take (w * n) (now (out .exit))) ⌝ }
 {
@@ -61,21 +69,21 @@ fn read_body(
     es: &mut [i64],
     fs: &mut [i64],
 ) -> u64
-    requires { ⌜ (v ≤ 128) × (e ≤ 756) × (f ≤ 252) ⌝ }
+    requires { ⌜ (v ≤ MostVertices) × (e ≤ MostHalfEdges) × (f ≤ MostFaces) ⌝ }
     requires { ⌜ (4 * v ≤ length (now vs)) × (4 * e ≤ length (now es)) × (f ≤ length (now fs)) ⌝ }
     ensures { λ r. ⌜ bodyOf v e f (now (text .entry)) ≡ saidBody r (take (4 * v) (now (vs .exit))) (take (4 * e) (now (es .exit))) (take (1 * f) (now (fs .exit))) ⌝ }
 {
-    if text.len() != 25 + 33 * v + 33 * e + 9 * f {
+    if text.len() != HEAD_BYTES + ROW_BYTES * v + ROW_BYTES * e + FACE_BYTES * f {
         return 3;
     }
-    if !fill(text, 25, 4, v, vs) {
+    if !fill(text, HEAD_BYTES, 4, v, vs) {
         return 5;
     }
-    let at = 25 + 33 * v;
+    let at = HEAD_BYTES + ROW_BYTES * v;
     if !fill(text, at, 4, e, es) {
         return 5;
     }
-    let last = at + 33 * e;
+    let last = at + ROW_BYTES * e;
     if !fill(text, last, 1, f, fs) {
         return 5;
     }

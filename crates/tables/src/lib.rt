@@ -3,7 +3,7 @@ ghost use mathlib.Core.Path.{_≡_};
 ghost use Prim.Native.Nat.{_+_, _*_, _≤_, _<_};
 ghost use lib.ListN.{length, drop};
 ghost use Rattle.text.specs.Field.{fieldWidth};
-ghost use Rattle.tables.specs.Table.{lineOf, tableOf, given, lineBytes};
+ghost use Rattle.tables.specs.Table.{FieldsMax, LinesMax, lineOf, tableOf, given, lineBytes};
 use text::Field;
 
 // How many columns a field has.
@@ -13,7 +13,7 @@ const COLUMNS: usize = 8;
 const STARTS: [usize; 5] = [0, 8, 16, 24, 32];
 
 fn start(j: usize) -> usize
-    requires { ⌜ j < 5 ⌝ }
+    requires { ⌜ j < FieldsMax ⌝ }
     ensures { λ r. ⌜ r ≡ fieldWidth * j ⌝ }
 {
     STARTS[j]
@@ -21,7 +21,7 @@ fn start(j: usize) -> usize
 
 // One line from `at`: a field for each element of `row`, then the line end. Whether it is well formed; then `row` has its numbers.
 pub fn line(text: &[u8], at: usize, row: &mut [i64]) -> bool
-    requires { ⌜ (length (now row) ≤ 5) × (at + fieldWidth * length (now row) < length (now text)) ⌝ }
+    requires { ⌜ (length (now row) ≤ FieldsMax) × (at + fieldWidth * length (now row) < length (now text)) ⌝ }
     ensures { λ r. ⌜ lineOf (length (now (row .entry))) (drop at (now (text .entry))) ≡ given r (now (row .exit)) ⌝ }
 {
     let mut j = 0;
@@ -46,7 +46,7 @@ pub fn line(text: &[u8], at: usize, row: &mut [i64]) -> bool
 
 // `n` lines of `w` fields from `at`. Whether they are well formed; then `cells` has their numbers, line after line.
 pub fn table(text: &[u8], at: usize, w: usize, n: usize, cells: &mut [i64]) -> bool
-    requires { ⌜ (w ≤ 5) × (n ≤ 1000) ⌝ }
+    requires { ⌜ (w ≤ FieldsMax) × (n ≤ LinesMax) ⌝ }
     requires { ⌜ (at + lineBytes w * n ≤ length (now text)) × (length (now cells) ≡ w * n) ⌝ }
     ensures { λ r. ⌜ tableOf w n (drop at (now (text .entry))) ≡ given r (now (cells .exit)) ⌝ }
 {
