@@ -6,7 +6,7 @@ writes DIR/aNNNNN (accepted charts with queries.txt, log.txt, batch.txt, rooms.t
 expect.txt: the refusal and the kind of damage), ACCEPTED lists of batches DIR/bNNNNN, and the families that are in every suite (README.md names them). Then run
 `oracle suite DIR` and `second.py suite DIR`.
 """
-import collections, math, os, random, sys
+import collections, itertools, math, os, random, sys
 
 sys.dont_write_bytecode = True  # nothing is left in the source tree
 from second import GRID as G, Chart, side, circle, refusal, parse, table_faults, link_faults, locate, gradient, value
@@ -604,17 +604,22 @@ def fixed(rnd, write):
     widest('f23', curve, delaunay(curve, random.Random(1)), [(-1500, 2500)], '128 vertices, 756 half-edges, 252 faces, 126 of them to open')
 
 
-def systematic(write):
-    """Triangle A with one thing changed, for every cell and every rule of the text; returns the number of cases."""
-    n = 0
+def numbered(write, name, rooms):
+    """Puts charts' bytes as cases, numbered from 0 on."""
+    number = itertools.count()
 
     def put(b, note):
-        nonlocal n
-        write('g%04d' % n, 'chart.txt', b)
-        write('g%04d' % n, 'rooms.txt', '5\n6\n')
-        write('g%04d' % n, 'expect.txt', '%d %s\n' % (refusal(b), note))
-        n += 1
+        p = name % next(number)
+        write(p, 'chart.txt', b)
+        write(p, 'rooms.txt', rooms)
+        write(p, 'expect.txt', '%d %s\n' % (refusal(b), note))
 
+    return put
+
+
+def systematic(write):
+    """Triangle A with one thing changed, for every cell and every rule of the text."""
+    put = numbered(write, 'g%04d', '5\n6\n')
     t = TRIANGLE.encode()
     cells = [8 * k for k in range(3)] + [25 + 33 * r + 8 * k for r in range(9) for k in range(4)] + [322, 331]
     for col, rims in ((0, (2, 3, 4, 127, 128, 129)), (1, (4, 5, 6, 7, 8, 755, 756, 757, 758)), (2, (1, 2, 3, 251, 252, 253))):
@@ -634,21 +639,12 @@ def systematic(write):
         put(Chart(c.v, c.h, c.f + [h]).text(), 'an empty face, the last')
         put(Chart(c.v, [r[:3] + [2 * r[3]] for r in c.h], [c.f[0], h, c.f[1]]).text(), 'an empty face')
         put(Chart(c.v + [[5, 5, 0, h]], c.h, c.f).text(), 'a lone vertex')
-    return n
 
 
 def any_bytes(write):
     """What is no chart at all: too short, longer than the largest chart (31,465 bytes) and than a buffer of 65,536, huge counts, bytes
-    above 127; returns the number of cases."""
-    n = 0
-
-    def put(b, note):
-        nonlocal n
-        write('x%02d' % n, 'chart.txt', b)
-        write('x%02d' % n, 'rooms.txt', '0\n6\n756\n')
-        write('x%02d' % n, 'expect.txt', '%d %s\n' % (refusal(b), note))
-        n += 1
-
+    above 127."""
+    put = numbered(write, 'x%02d', '0\n6\n756\n')
     t, row = TRIANGLE.encode(), b'       0       0       0       0\n'
     head = b'     128     756     252\n'
     full = head + row * 884 + b'       0\n' * 252
@@ -674,7 +670,6 @@ def any_bytes(write):
     put(t.replace(b' ', b'\xa0'), 'other blanks')
     put(t.replace(b'\n', b'\r\n'), 'line ends of two bytes')
     put(t + t, 'twice the chart')
-    return n
 
 
 def link_cases(rnd, write):
