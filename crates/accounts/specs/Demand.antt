@@ -95,40 +95,40 @@ pub record Demand3 (Q : Queries) (s : ℕ) (chart : List ℕ) (cs : List Call) (
       → (answers Q (fresh s) ds ≡ answers Q (fresh s) cs) × (after Q (fresh s) ds ≡ after Q (fresh s) cs)
 
 -- ---- the tie to the code: a call that was made, with what it returned and what it left in the answer slice
-pub record Turn : Type 0 where
+pub record MadeCall : Type 0 where
   pub call : Call
   pub result : Returned
   pub left : List ℕ
 
 -- calls that were made, each handed the book that the one before it returned; the fact of each is the batch's contract, word for word
-abbrev pub Made : Queries → Book → List Turn → Type 0
+abbrev pub Made : Queries → Book → List MadeCall → Type 0
 Made Q b [] = Unit {0}
 Made Q b (t ∷ ts) = (outcome (t .result) (t .left) ≡ batchOf Q b (t .call .chart) (t .call .entries) (t .call .lent)) × Made Q (t .result .book) ts
 
 -- the calls alone
-abbrev pub callsOf : List Turn → List Call
+abbrev pub callsOf : List MadeCall → List Call
 callsOf [] = []
 callsOf (t ∷ ts) = t .call ∷ callsOf ts
 
 -- the book at the end
-abbrev pub lastBook : Book → List Turn → Book
+abbrev pub lastBook : Book → List MadeCall → Book
 lastBook b [] = b
 lastBook b (t ∷ ts) = lastBook (t .result .book) ts
 
 -- the answers of those not refused
-abbrev pub lastAnswers : List Turn → List ℕ
+abbrev pub lastAnswers : List MadeCall → List ℕ
 lastAnswers [] = []
 lastAnswers (t ∷ ts) =
     cond (eqb (t .result .refusal) 0) (take (length (entriesOf (t .call .entries))) (t .left)) [] ++ lastAnswers ts
 
 -- the same sentences of calls that were made
-pub record Demand3Made (Q : Queries) (s : ℕ) (chart : List ℕ) (ts : List Turn) (t : Tally) : Type 0 where
-  pub never-one : (p : List Turn) (q : List Turn) → ts ≡ p ++ q → badBook (lastBook (fresh s) p) ≡ false
-  pub refused-exactly : (p : List Turn) (u : Turn) (q : List Turn) → ts ≡ p ++ (u ∷ q) → u .result .refusal ≡ refusalIn (u .call)
+pub record Demand3Made (Q : Queries) (s : ℕ) (chart : List ℕ) (ts : List MadeCall) (t : Tally) : Type 0 where
+  pub never-one : (p : List MadeCall) (q : List MadeCall) → ts ≡ p ++ q → badBook (lastBook (fresh s) p) ≡ false
+  pub refused-exactly : (p : List MadeCall) (u : MadeCall) (q : List MadeCall) → ts ≡ p ++ (u ∷ q) → u .result .refusal ≡ refusalIn (u .call)
   pub unchanged-when-refused :
-      (p : List Turn) (u : Turn) (q : List Turn) → ts ≡ p ++ (u ∷ q) → (refusalIn (u .call) ≡ 0 → ⊥)
+      (p : List MadeCall) (u : MadeCall) (q : List MadeCall) → ts ≡ p ++ (u ∷ q) → (refusalIn (u .call) ≡ 0 → ⊥)
       → (u .result .book ≡ lastBook (fresh s) p) × (u .left ≡ u .call .lent)
   pub accounted : Accounted s (joined (callsOf ts)) t (lastBook (fresh s) ts) (lastAnswers ts)
   pub division-does-not-matter :
-      (us : List Turn) → Made Q (fresh s) us → OneChart chart (callsOf us) → joined (callsOf us) ≡ joined (callsOf ts)
+      (us : List MadeCall) → Made Q (fresh s) us → OneChart chart (callsOf us) → joined (callsOf us) ≡ joined (callsOf ts)
       → (lastAnswers us ≡ lastAnswers ts) × (lastBook (fresh s) us ≡ lastBook (fresh s) ts)

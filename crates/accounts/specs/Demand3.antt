@@ -22,7 +22,7 @@ use Rattle.entries.specs.Ruling.{RefusedEntry, meets17, with17, answerOf}
 use Rattle.accounts.specs.Rulings.{Queries, Known, entryRuling, known}
 use Rattle.accounts.specs.Batch.{bookChange, bookVerdict, bookAfter, answersFrom, batchRefusal, Outcome, outcome, byRefusal}
 use Rattle.accounts.specs.Tally.{charges, bendCount, Tally, start, noted, verdict, tallyFrom, tally, IsAccepted}
-use Rattle.accounts.specs.Demand.{Call, does, refusalIn, fresh, after, answers, joined, OneChart, Accounted, Demand3, Turn, Made, callsOf, lastBook, lastAnswers, Demand3Made}
+use Rattle.accounts.specs.Demand.{Call, does, refusalIn, fresh, after, answers, joined, OneChart, Accounted, Demand3, MadeCall, Made, callsOf, lastBook, lastAnswers, Demand3Made}
 use Rattle.accounts.specs.Agree.{Agree, Ran, ran, entries-valid}
 
 -- ---- the fresh book
@@ -235,11 +235,11 @@ module _ (Q : Queries) where
       }
 
   -- ---- what was returned and left, call by call, is what `after` and `answers` say: so demand 3 is about the code
-  made-book : (ts : List Turn) (b : Book) → Made Q b ts → lastBook b ts ≡ after Q b (callsOf ts)
+  made-book : (ts : List MadeCall) (b : Book) → Made Q b ts → lastBook b ts ≡ after Q b (callsOf ts)
   made-book [] b m = refl
   made-book (t ∷ ts) b m = made-book ts (t .result .book) (m .1) ∙ ap (λ (o : Outcome). after Q (o .book) (callsOf ts)) (m .0)
 
-  made-answers : (ts : List Turn) (b : Book) → Made Q b ts → lastAnswers ts ≡ answers Q b (callsOf ts)
+  made-answers : (ts : List MadeCall) (b : Book) → Made Q b ts → lastAnswers ts ≡ answers Q b (callsOf ts)
   made-answers [] b m = refl
   made-answers (t ∷ ts) b m =
       let n = length (entriesOf (t .call .entries)) in
@@ -247,27 +247,27 @@ module _ (Q : Queries) where
       ∙ ap (λ (o : Outcome). cond (eqb (o .refusal) 0) (take n (o .answers)) [] ++ answers Q (o .book) (callsOf ts)) (m .0)
 
   -- a call among those made: what it returned and left is what the batch does on the book before it
-  made-at : (p : List Turn) (u : Turn) (q : List Turn) (b : Book) → Made Q b (p ++ (u ∷ q))
+  made-at : (p : List MadeCall) (u : MadeCall) (q : List MadeCall) (b : Book) → Made Q b (p ++ (u ∷ q))
       → outcome (u .result) (u .left) ≡ does Q (lastBook b p) (u .call)
   made-at [] u q b m = m .0
   made-at (t ∷ p) u q b m = made-at p u q (t .result .book) (m .1)
 
-  made-front : (p : List Turn) (q : List Turn) (b : Book) → Made Q b (p ++ q) → Made Q b p
+  made-front : (p : List MadeCall) (q : List MadeCall) (b : Book) → Made Q b (p ++ q) → Made Q b p
   made-front [] q b m = tt
   made-front (t ∷ p) q b m = (m .0, made-front p q (t .result .book) (m .1))
 
-  pub demand3-made : (s : ℕ) → 1 ≤ s → s ≤ SectionMax → (chart : List ℕ) (ts : List Turn) → Made Q (fresh s) ts → OneChart chart (callsOf ts)
+  pub demand3-made : (s : ℕ) → 1 ≤ s → s ≤ SectionMax → (chart : List ℕ) (ts : List MadeCall) → Made Q (fresh s) ts → OneChart chart (callsOf ts)
       → Demand3Made Q s chart ts (tally Q s chart (joined (callsOf ts)))
   demand3-made s h k chart ts m one =
       let d : Demand3 Q s chart (callsOf ts) (tally Q s chart (joined (callsOf ts))) = demand3 s h k chart (callsOf ts) one in
-      let front : (p q : List Turn) → ts ≡ p ++ q → Made Q (fresh s) p =
-      λ p q w. made-front p q (fresh s) (subst (λ (l : List Turn). Made Q (fresh s) l) w m)
+      let front : (p q : List MadeCall) → ts ≡ p ++ q → Made Q (fresh s) p =
+      λ p q w. made-front p q (fresh s) (subst (λ (l : List MadeCall). Made Q (fresh s) l) w m)
       in
-      let valid : (p q : List Turn) → ts ≡ p ++ q → ValidBook (lastBook (fresh s) p) =
+      let valid : (p q : List MadeCall) → ts ≡ p ++ q → ValidBook (lastBook (fresh s) p) =
       λ p q w. subst ValidBook (sym (made-book p (fresh s) (front p q w))) (after-valid (callsOf p) (fresh s) (fresh-agrees s h k .valid))
       in
-      let at : (p : List Turn) (u : Turn) (q : List Turn) → ts ≡ p ++ (u ∷ q) → outcome (u .result) (u .left) ≡ does Q (lastBook (fresh s) p) (u .call) =
-      λ p u q w. made-at p u q (fresh s) (subst (λ (l : List Turn). Made Q (fresh s) l) w m)
+      let at : (p : List MadeCall) (u : MadeCall) (q : List MadeCall) → ts ≡ p ++ (u ∷ q) → outcome (u .result) (u .left) ≡ does Q (lastBook (fresh s) p) (u .call) =
+      λ p u q w. made-at p u q (fresh s) (subst (λ (l : List MadeCall). Made Q (fresh s) l) w m)
       in
       record {
         never-one = λ p q w. valid-book (lastBook (fresh s) p) (valid p q w);

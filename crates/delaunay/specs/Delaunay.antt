@@ -10,7 +10,7 @@ use Rattle.whole.specs.First.{some}
 use Rattle.geometry.specs.declared.Place.{Place}
 use Rattle.geometry.specs.Plane.{OnGrid, side, circle}
 use Rattle.chart.specs.Tables.{rows, placeOf}
-use Rattle.chart.specs.Chart.{Chart, partner, outer, corner₀, corner₁, corner₂}
+use Rattle.chart.specs.Chart.{Chart, fromOf, toOf, outer, corner₀, corner₁, corner₂}
 
 -- 8: two vertices at one place. Vertex w is at the place p
 abbrev pub samePlace : Place → Place → Bool
@@ -36,20 +36,18 @@ liesLeft place a b v = ltZ (pos 0) (side a b (place v))
 
 abbrev pub overhung : Chart → ℕ → Bool
 overhung c h =
-    outer c h && some (liesLeft (c .place) (c .place (c .origin h)) (c .place (c .origin (partner h)))) (c .vertices)
+    outer c h && some (liesLeft (c .place) (fromOf c h) (toOf c h)) (c .vertices)
 
--- 11: a vertex strictly inside an inner face's circle. Vertex v is strictly inside the circle of a, b, c
-abbrev pub liesInside : (ℕ → Place) → Place → Place → Place → ℕ → Bool
-liesInside place a b c v = ltZ (pos 0) (circle a b c (place v))
-
--- the place q is strictly inside the circle of face f
+-- 11: a vertex strictly inside an inner face's circle. The place q is strictly inside the circle of face f
 abbrev pub inCircle : Chart → Place → ℕ → Bool
 inCircle c q f = ltZ (pos 0) (circle (c .place (corner₀ c f)) (c .place (corner₁ c f)) (c .place (corner₂ c f)) q)
 
 abbrev pub crowded : Chart → ℕ → Bool
-crowded c f =
-    ltb 0 f
-    && some (liesInside (c .place) (c .place (corner₀ c f)) (c .place (corner₁ c f)) (c .place (corner₂ c f))) (c .vertices)
+crowded c f = ltb 0 f && some (λ v. inCircle c (c .place v) f) (c .vertices)
+
+-- vertex v is strictly inside the circle of a, b, c: the same, as the scan of the vertices has it
+abbrev pub liesInside : (ℕ → Place) → Place → Place → Place → ℕ → Bool
+liesInside place a b c v = ltZ (pos 0) (circle a b c (place v))
 
 -- every vertex is on the grid
 pub record Gridded (vs : List ℤ) : Type 0 where

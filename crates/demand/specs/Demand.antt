@@ -17,7 +17,7 @@ use Rattle.entries.specs.declared.Entry.{Entry}
 use Rattle.entries.specs.Entry.{EntryWidth, entryAt, entriesFrom, entriesOf}
 use Rattle.accounts.specs.Batch.{badSlices, outcome, batchOf}
 use Rattle.accounts.specs.Tally.{tally}
-use Rattle.accounts.specs.Demand.{Call, refusalIn, fresh, joined, OneChart, Accounted, Demand3, Turn, Made, callsOf, lastAnswers, Demand3Made}
+use Rattle.accounts.specs.Demand.{Call, refusalIn, fresh, joined, OneChart, Accounted, Demand3, MadeCall, Made, callsOf, lastAnswers, Demand3Made}
 use Rattle.accounts.specs.Demand3.{demand3, demand3-made}
 use Rattle.estivolh.specs.Account.{queries}
 use Rattle.demand.specs.declared.Both.{Both}
@@ -28,7 +28,7 @@ pub demand : (s : ℕ) → 1 ≤ s → s ≤ SectionMax → (chart : List ℕ) (
 demand = demand3 queries
 
 -- the same of calls that were made: each fact of `Made` is the contract of `estivolh::batch`
-pub demand-made : (s : ℕ) → 1 ≤ s → s ≤ SectionMax → (chart : List ℕ) (ts : List Turn) → Made queries (fresh s) ts → OneChart chart (callsOf ts)
+pub demand-made : (s : ℕ) → 1 ≤ s → s ≤ SectionMax → (chart : List ℕ) (ts : List MadeCall) → Made queries (fresh s) ts → OneChart chart (callsOf ts)
     → Demand3Made queries s chart ts (tally queries s chart (joined (callsOf ts)))
 demand-made = demand3-made queries
 
@@ -170,10 +170,10 @@ module _ (s : ℕ) (some-section : 1 ≤ s) (few-sections : s ≤ SectionMax) (c
       ∙ (ap (λ (k : ℕ). entriesFrom es 0 cut ++ entriesFrom es k (length es / EntryWidth - cut)) (sym p)
       ∙ (sym (entries-split es cut (length es / EntryWidth - cut) 0) ∙ ap (entriesFrom es 0) q)))))
 
-  abbrev one : List Turn
+  abbrev one : List MadeCall
   one = record { call = cw; result = r; left = ow } ∷ []
 
-  abbrev two : List Turn
+  abbrev two : List MadeCall
   two = record { call = cf; result = rf; left = of } ∷ record { call = cg; result = rg; left = og } ∷ []
 
   kept : (c : Call) → refusalIn c ≡ 0 → (l : List Entry) → cond (eqb (refusalIn c) 0) (entriesOf (c .entries)) [] ++ l ≡ entriesOf (c .entries) ++ l

@@ -1,4 +1,4 @@
--- point.rs and math.rs, what the weights use of them: the same operations on f64 in the same order.
+-- 01, "Weights": what they use of point.rs and math.rs, the same operations on f64 in the same order.
 use mathlib.Core.Bool.{cond}
 use lib.Ieee.{Float, le, neg}
 use Rattle.geometry.specs.declared.Place.{Place}

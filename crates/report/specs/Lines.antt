@@ -1,4 +1,4 @@
--- 01, "Program": what the program prints.
+-- 01, "Program": the lines that the program prints, and how long they are.
 use Prim.Native.Nat.{ℕ, zero, suc, _+_, _*_, _%_}
 use mathlib.Core.List.{List, [], _∷_, _++_}
 use lib.IntN.{pos}

@@ -6,10 +6,9 @@ ghost use lib.ListN.{length};
 ghost use Rattle.report.specs.Lines.{lineFeed, columnByte, printed, answerBytes, sectionBytes, retiredBytes, refusalBytes, bookBytes, answerLine, sectionLine, retiredLine, refusalLine, answerLines, sectionLines, bookLines, outputOf, programSections};
 ghost use Rattle.report.specs.Laid.{laid};
 use book::Book;
+use text::COLUMNS;
 
-// Columns of a field: of a number, and of wear or a bend count.
-const COLUMNS: usize = 8;
-
+// Columns of a field with wear or a bend count (`wideField`).
 const WIDE_COLUMNS: usize = 16;
 
 // How many sections the program's book has.

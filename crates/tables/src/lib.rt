@@ -4,10 +4,8 @@ ghost use Prim.Native.Nat.{_+_, _*_, _≤_, _<_};
 ghost use lib.ListN.{length, drop};
 ghost use Rattle.text.specs.Field.{fieldWidth};
 ghost use Rattle.tables.specs.Table.{FieldsMax, LinesMax, lineOf, tableOf, given, lineBytes};
+use text::COLUMNS;
 use text::Field;
-
-// How many columns a field has.
-const COLUMNS: usize = 8;
 
 // Where the fields of a line start.
 const STARTS: [usize; 5] = [0, 8, 16, 24, 32];

@@ -6,6 +6,9 @@ ghost use lib.Dec.{eqb};
 ghost use Rattle.text.specs.Field.{fieldWidth, spacesOf, digitsOf, fieldOf};
 ghost use Rattle.text.specs.Natural.{isFigure, figures, plain, numberIf, belowZero};
 
+// How many columns a field has (`fieldWidth`).
+pub const COLUMNS: usize = 8;
+
 // A field of a chart: its number, or what is no field.
 pub enum Field {
     Number(i64),
