@@ -21,12 +21,9 @@ use Rattle.reading.specs.Reading.{headLength, headOf, fileLength, Body, three, 
 use Rattle.reading.specs.Reading.Body.{body, malformed}
 use Rattle.reading.specs.declared.Head.{Head}
 use Rattle.reading.specs.declared.Head.the-variants.{Refused, Counts}
-use Rattle.reading.specs.Laws.{head-counted, head-refusal, load-refusal, chart-body}
+use Rattle.reading.specs.Laws.{never, head-counted, head-refusal, load-refusal, chart-body}
 use Rattle.accepted.specs.Tests.{passed}
 use Rattle.accepted.specs.Accepted.{Accepted, accepted}
-
-never : {X : Type 0} → _≡_ {A = ℕ} 0 1 → X
-never e = let o : ⊥ = omega arith in absurd o
 
 -- ---- the tables of a body are as long as the counts say
 record Sized (v e f : ℕ) (vs es fs : List ℤ) : Type 0 where

@@ -1,18 +1,16 @@
 -- 01, rows 12 to 16: what follows for an entry from s, chart and entry alone.
 use mathlib.Core.Path.{_≡_, refl}
 use mathlib.Core.List.{List}
-use mathlib.Core.Bool.{Bool, true, false, not, cond, true≢false}
+use mathlib.Core.Bool.{Bool, true, false, cond}
 use Prim.Native.Nat.{ℕ, _≤_, _<_}
 use native.Mathlib.Omega.{arith}
-use lib.Dec.{ltb}
-use lib.IntN.{ℤ, pos, negsuc}
+use lib.IntN.{ℤ}
 use lib.Ieee.{Float}
-use borrow.Author.Tests.{ltb-true, not-false}
 use Rattle.whole.specs.Bools.{or-false}
 use Rattle.geometry.specs.declared.Place.{Place}
 use Rattle.geometry.specs.Plane.{offGrid}
 use Rattle.chart.specs.Tables.{unsigned}
-use Rattle.ranges.specs.Ranges.{notBelow}
+use Rattle.ranges.specs.Passed.{below}
 use Rattle.values.specs.declared.InterpolatedValue.{InterpolatedValue}
 use Rattle.values.specs.declared.InterpolatedValue.the-variants as I
 use Rattle.entries.specs.declared.Entry.{Entry}
@@ -47,12 +45,6 @@ abbrev pub Known : ℕ → Ruling → Type 0
 Known s (Bend i n) = (i < s) × (n ≤ ChargeMax)
 Known s (Splice i) = i < s
 Known s (Refused k) = Unit {0}
-
--- a section that 12 lets pass
-below : (s : ℕ) (z : ℤ) → notBelow s z ≡ false → unsigned z < s
-unfolding notBelow
-below s (pos a) e = ltb-true a s (not-false (ltb a s) (or-false (ltb a 0) (not (ltb a s)) e .1))
-below s (negsuc a) e = absurd (true≢false e)
 
 charged-known : (s i : ℕ) → i < s → (v : Float) → Known s (charged i v)
 charged-known s i h v = go (offScale v) refl

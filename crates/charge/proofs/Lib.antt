@@ -1,2 +1,1 @@
-pub mod Fractions
 pub mod Tests

@@ -13,9 +13,9 @@ use lib.Ieee.Exact.{HasValue, round-exact}
 use lib.Ieee.Fits.{down-pos}
 use lib.Ieee.Back.{round-whole}
 use borrow.Author.Tests.{ltb-true, ltb-false, lt-ltb, le-ltb, le-leb, lt-leb, eq-eqb, ne-eqb}
+use Rattle.whole.specs.Fractions.{own, add-frac, lt-frac}
 use Rattle.charge.specs.Charging.{ChargeMax, offScale, rounded, chargeOf}
 use Rattle.charge.specs.declared.Charged.the-variants.{Whole, Refused}
-use Rattle.charge.proofs.Fractions.{own, add-frac, lt-frac}
 
 -- ---- the constants of the code: -0.5, 1,000,000.5 and 0.5
 abbrev pub lowEnd : Float

@@ -6,9 +6,9 @@ use Prim.Native.Nat.{zero, suc, _*_}
 use native.Mathlib.Nat.{mul-pos}
 use native.Mathlib.Omega.{arith}
 use lib.Dec.{lt→ltb}
-use lib.IntN.{ℤ, pos, negsuc, _+ℤ_, _-ℤ_, _*ℤ_, +ℤ-comm, +ℤ-idl, *ℤ-zero, -ℤ-+ℤ-cancel}
+use lib.IntN.{ℤ, pos, negsuc, _+ℤ_, _-ℤ_, _*ℤ_, +ℤ-comm, *ℤ-zero}
 use Rattle.whole.specs.Test.{eqZ, eqZ-true, eq-eqZ}
-use Rattle.whole.specs.Poly.{var, _⊕_, _⊖_, _⊗_, env, agree, solve! }
+use Rattle.whole.specs.Poly.{var, _⊕_, _⊖_, _⊗_, env, agree, solve!, sub-zero-eq}
 use Rattle.whole.specs.Sign.{Above, above-mul, above-atleast, square, not-zero}
 use Rattle.geometry.specs.declared.Place.{Place}
 use Rattle.geometry.specs.Plane.{vectorOf, crossOf, dotOf, norm2Of, side}
@@ -18,10 +18,6 @@ square-above : (z : ℤ) → (z ≡ pos 0 → ⊥) → Above (z *ℤ z)
 square-above (pos zero) d = absurd (d refl)
 square-above (pos (suc n)) d = record { is = lt→ltb 0 (suc n * suc n) (mul-pos (omega arith) (omega arith)) }
 square-above (negsuc n) d = record { is = lt→ltb 0 (suc n * suc n) (mul-pos (omega arith) (omega arith)) }
-
--- a difference of 0
-same : (a b : ℤ) → a -ℤ b ≡ pos 0 → a ≡ b
-same a b e = sym (-ℤ-+ℤ-cancel a b) ∙ ap (λ (z : ℤ). z +ℤ b) e ∙ +ℤ-idl b
 
 -- a vector that is not 0 has a squared length above 0
 norm2-above : (u : Place) → (u .x ≡ pos 0 → u .y ≡ pos 0 → ⊥) → Above (norm2Of u)
@@ -62,7 +58,7 @@ on-a-line p q a b d n ea eb ed s =
     let uv : crossOf u v ≡ pos 0 = side-along p q a b ∙ rw (eb, ea) in
     let uw : crossOf u w ≡ pos 0 = side-along p q a d ∙ rw (ed, ea) in
     let z : norm2Of u *ℤ crossOf v w ≡ pos 0 = lagrange u v w ∙ rw (uv, uw) (simp *ℤ-zero) in
-    not-zero (above-mul (norm2-above u (λ x y. n (sym (placed q p (same (q .x) (p .x) x) (same (q .y) (p .y) y))))) s) z
+    not-zero (above-mul (norm2-above u (λ x y. n (sym (placed q p (sub-zero-eq (q .x) (p .x) x) (sub-zero-eq (q .y) (p .y) y))))) s) z
   where
     placed : (p q : Place) → p .x ≡ q .x → p .y ≡ q .y → p ≡ q
     placed p q e f = ap (λ (x : ℤ). placeAt x (p .y)) e ∙ ap (λ (y : ℤ). placeAt (q .x) y) f

@@ -67,7 +67,8 @@ passed-positive v e f h =
     (not-negative LeastVertices MostVertices v (a .0), (not-negative LeastHalfEdges MostHalfEdges e (d .0), not-negative LeastFaces MostFaces f (d .1)))
 
 -- ---- 6
-below : (n : ℕ) (z : ℤ) → notBelow n z ≡ false → unsigned z < n
+-- a number that is let pass, taken over
+pub below : (n : ℕ) (z : ℤ) → notBelow n z ≡ false → unsigned z < n
 unfolding notBelow
 below n (pos m) e = ltb-true m n (not-false (ltb m n) (or-false (ltb m 0) (not (ltb m n)) e .1))
 below n (negsuc m) e = absurd (false≢true (sym e))

@@ -5,15 +5,9 @@ use mathlib.Core.Path.{_≡_, refl}
 use native.Mathlib.Omega.{arith}
 use native.Mathlib.Numerals.{add-one}
 use lib.ListN.{length, length-append}
-use Rattle.text.specs.Field.{columns, lastDigit, fieldText}
+use Rattle.text.specs.Field.{columns-length, lastDigit, fieldText}
 use Rattle.book.specs.declared.Book.{Book}
 use Rattle.report.specs.Lines.{printed, answerBytes, sectionBytes, retiredBytes, refusalBytes, bookBytes, answerLine, sectionLine, retiredLine, refusalLine, answerLines, sectionLines, bookLines, outputOf}
-
-columns-length : (k g n : ℕ) → length (columns k g n) ≡ k
-unfolding columns
-columns-length zero g n = refl
-columns-length (suc k) g zero = simp (length-append, columns-length k 32 zero, add-one)
-columns-length (suc k) g (suc m) = simp (length-append, columns-length k g (suc m / 10), add-one)
 
 -- a field has its columns
 pub printed-length : (w n : ℕ) → length (printed w n) ≡ w

@@ -15,7 +15,7 @@ use lib.Dec.{eqb, leb, lit<}
 use borrow.Author.Tests.{eq-eqb, ne-eqb, eqb-true, eqb-false, not-true, le-leb, leb-true, lt-ltb}
 use Rattle.whole.specs.Bools.{and-true}
 use Rattle.text.specs.Bytes.{eqs-refl, eqs-other}
-use Rattle.text.specs.Field.{fieldWidth, spacesOf, digitsOf, valueOf, columns, lastDigit, fieldOf, fieldText, candidate, signed}
+use Rattle.text.specs.Field.{fieldWidth, spacesOf, digitsOf, valueOf, columns, columns-length, lastDigit, fieldOf, fieldText, candidate, signed}
 use Rattle.text.specs.Natural.{isFigure, figures, plain, numberIf, belowZero}
 use Rattle.text.specs.declared.Field.the-variants.{Number, Malformed}
 
@@ -95,13 +95,6 @@ columns-figure : (k g n : ℕ) → 0 < n → columns (suc k) g n ≡ columns k g
 unfolding columns
 columns-figure k g zero h = absurd (omega arith)
 columns-figure k g (suc m) h = refl
-
--- Columns are as many as they say.
-columns-length : (k g n : ℕ) → length (columns k g n) ≡ k
-unfolding columns
-columns-length zero g n = refl
-columns-length (suc k) g zero = simp (length-append, columns-length k 32 zero, add-one)
-columns-length (suc k) g (suc m) = simp (length-append, columns-length k g (suc m / 10), add-one)
 
 -- One digit x after those of a.
 columns-more : (k g a x : ℕ) → isFigure x ≡ true → 0 < a * 10 + (x - 48) → columns (suc k) g (a * 10 + (x - 48)) ≡ columns k g a ++ (x ∷ [])

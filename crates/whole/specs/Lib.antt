@@ -6,3 +6,4 @@ pub mod Ring
 pub mod Poly
 pub mod Sign
 pub mod Orbit
+pub mod Fractions

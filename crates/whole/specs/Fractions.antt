@@ -33,7 +33,7 @@ sub-scale a b c d =
     ∙ mul-right-comm (b - a) c d
     ∙ mul-assoc (b - a) d c
 
-pub sum-scale : (f : Format) (s : Bool) (a : ℕ) (t : Bool) (b d c : ℕ) → 0 < c → 0 < d → sum f s (a * c) t (b * c) (d * c) ≡ sum f s a t b d
+sum-scale : (f : Format) (s : Bool) (a : ℕ) (t : Bool) (b d c : ℕ) → 0 < c → 0 < d → sum f s (a * c) t (b * c) (d * c) ≡ sum f s a t b d
 unfolding sum
 sum-scale f s a t b d c C D =
     let E : 0 < d * c = mul-pos D C in
