@@ -7,7 +7,7 @@ use mathlib.Core.List.{List, [], _∷_, map}
 use Prim.Native.Nat.{ℕ, _-_, _<_, zero-le}
 use native.Mathlib.Omega.{arith}
 use lib.Dec.{eqb, le→leb}
-use lib.IntN.{ℤ, pos, negsuc, negℤ, _+ℤ_, +ℤ-comm, +ℤ-idl}
+use lib.IntN.{ℤ, pos, negsuc, negℤ, +ℤ-comm, +ℤ-idl}
 use lib.Signed.{ltZ}
 use borrow.Author.Tests.{eqb-true, eqb-false}
 use Rattle.whole.specs.Test.{ne-eqZ}
