@@ -8,7 +8,7 @@ use lib.Ieee.{binary64, ofBits}
 use Rattle.geometry.specs.Plane.{offGrid}
 use Rattle.ranges.specs.Ranges.{notBelow}
 use Rattle.book.specs.declared.Book.{Book}
-use Rattle.book.specs.Books.{Limit, wearOf, countOf}
+use Rattle.book.specs.Books.{Limit}
 use Rattle.entries.specs.declared.Entry.{Entry}
 use Rattle.entries.specs.declared.Ruling.{Ruling}
 use Rattle.entries.specs.declared.Ruling.the-variants.{Bend, Splice, Refused}
@@ -55,11 +55,9 @@ pub record AccountRows : Type 0 where
   pub bends-since : bendCount 0 history ≡ 1 + 1
   pub from-start : wearSum 1 history ≡ 9 + 0
   pub all-charges : charges history ≡ 5 + 9 + 7 + 3
-  -- two ropes, the same bends: spliced as the last entry of a batch, and halfway through one. Both start again from nothing
+  -- two ropes, the same bends: spliced as the last entry of a batch, and halfway through one. `rim` has them whole, on triangle A's bytes; here the
+  -- edit `acts_at_the_end` rests on them
   pub same-book : ropeOne ≡ ropeTwo
-  pub wear-anew : wearOf ropeTwo 0 ≡ 100 + 0
-  pub count-anew : countOf ropeTwo 0 ≡ 1 + 0
-  pub retired-wear : ropeTwo .retired ≡ 100 + 100
 
 pub account-rows : AccountRows
 unfolding history entryRuling notBelow offGrid ofBits
@@ -77,7 +75,4 @@ account-rows =
       from-start = refl;
       all-charges = refl;
       same-book = refl;
-      wear-anew = refl;
-      count-anew = refl;
-      retired-wear = refl;
     }

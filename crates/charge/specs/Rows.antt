@@ -1,15 +1,12 @@
--- 01, "Loads at the rim": the charges of single values, computed from the definition. Assumes nothing.
+-- The charges of single values, computed from the definition: those next to 01's three ("Loads at the rim"), which are rows of `rim`, and the odd ones.
+-- Assumes nothing.
 use mathlib.Core.Path.{_≡_, refl}
 use lib.Ieee.{binary64, ofBits}
 use Rattle.charge.specs.Charging.{chargeOf}
 use Rattle.charge.specs.declared.Charged.the-variants.{Whole, Refused}
 
 pub record ChargeRows : Type 0 where
-  -- 149.5, -0.5 and 1,000,000.5
-  pub half-up : chargeOf (ofBits binary64 0x4062_b000_0000_0000) ≡ Whole 150
-  pub lowest : chargeOf (ofBits binary64 0xbfe0_0000_0000_0000) ≡ Whole 0
-  pub too-high : chargeOf (ofBits binary64 0x412e_8481_0000_0000) ≡ Refused 16
-  -- the values next below these
+  -- the values next below 149.5, -0.5 and 1,000,000.5
   pub below-half : chargeOf (ofBits binary64 0x4062_afff_ffff_ffff) ≡ Whole 149
   pub too-low : chargeOf (ofBits binary64 0xbfe0_0000_0000_0001) ≡ Refused 16
   pub highest : chargeOf (ofBits binary64 0x412e_8480_ffff_ffff) ≡ Whole 1000000
@@ -25,9 +22,6 @@ pub charge-rows : ChargeRows
 unfolding ofBits
 charge-rows =
     record {
-      half-up = refl;
-      lowest = refl;
-      too-high = refl;
       below-half = refl;
       too-low = refl;
       highest = refl;
