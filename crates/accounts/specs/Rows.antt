@@ -23,7 +23,7 @@ use Rattle.accounts.specs.Demand.{fresh}
 unfoldable pub history : List Ruling
 history = Bend 0 5 ∷ Bend 1 9 ∷ Splice 0 ∷ Bend 0 7 ∷ Refused 14 ∷ Bend 0 3 ∷ []
 
--- a load of 100.0 wherever it lies
+-- a value of 100.0 for every load
 abbrev pub hundred : Queries
 hundred chart method place = Value (ofBits binary64 0x4059_0000_0000_0000)
 

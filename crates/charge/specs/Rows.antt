@@ -1,5 +1,4 @@
--- The charges of single values, computed from the definition: those next to 01's three ("Loads at the rim"), which are rows of `rim`, and the odd ones.
--- Assumes nothing.
+-- Charges of single values, computed from the definition; 01's own three ("Loads at the rim") are rows of `rim`. Assumes nothing.
 use mathlib.Core.Path.{_≡_, refl}
 use lib.Ieee.{binary64, ofBits}
 use Rattle.charge.specs.Charging.{chargeOf}

@@ -14,7 +14,8 @@ use lib.Seq.{drop-cons, take-suc, set-at, append-snoc, length-take-le}
 use Rattle.text.specs.Field.{fieldWidth, fieldOf}
 use Rattle.tables.specs.Table.{Cells, given, join, cellOf, lineOf, lineBytes, tableOf}
 use Rattle.tables.specs.Table.Cells.{cells, bad}
-use Rattle.log.specs.Log.{entryFields, entryBytes, entriesMax, Log, logFields, logOf, saidLog, logLeft}
+use Rattle.entries.specs.Entry.{EntryWidth}
+use Rattle.log.specs.Log.{entryBytes, entriesMax, Log, logFields, logOf, saidLog, logLeft}
 use Rattle.log.specs.Log.Log.{entries, refused}
 use Rattle.log.specs.declared.LogRead.{LogRead}
 
@@ -66,7 +67,7 @@ unfolding logOf
 log-count size bytes h g = rw (eq-eqb (size % entryBytes) 0 h, lt-ltb entriesMax (size / entryBytes) g) refl
 
 pub log-fields : (size : ℕ) (bytes : List ℕ) → size % entryBytes ≡ 0 → size / entryBytes ≤ entriesMax
-    → logOf size bytes ≡ logFields (tableOf entryFields (size / entryBytes) bytes)
+    → logOf size bytes ≡ logFields (tableOf EntryWidth (size / entryBytes) bytes)
 unfolding logOf
 log-fields size bytes h g = rw (eq-eqb (size % entryBytes) 0 h, le-ltb entriesMax (size / entryBytes) g) refl
 
@@ -82,6 +83,6 @@ pub left-refused : (r : LogRead) (k : ℕ) (g : Log) (lent : List ℤ) → g ≡
 left-refused r k g lent e p q = rw (e, p, q) refl
 
 -- What a log of n entries leaves.
-pub left-entries : (r : LogRead) (n : ℕ) (g : Log) (l lent : List ℤ) → g ≡ entries l → r .refusal ≡ 0 → r .entries ≡ n → length l ≡ entryFields * n
+pub left-entries : (r : LogRead) (n : ℕ) (g : Log) (l lent : List ℤ) → g ≡ entries l → r .refusal ≡ 0 → r .entries ≡ n → length l ≡ EntryWidth * n
     → saidLog r (l ++ drop (length l) lent) ≡ logLeft g lent
-left-entries r n g l lent e p q h = let d : length l / entryFields ≡ n = omega arith in rw (e, p, q, d) refl
+left-entries r n g l lent e p q h = let d : length l / EntryWidth ≡ n = omega arith in rw (e, p, q, d) refl

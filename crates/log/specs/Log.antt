@@ -10,13 +10,9 @@ use Rattle.tables.specs.Table.Cells.{cells, bad}
 use Rattle.entries.specs.Entry.{EntryWidth}
 use Rattle.log.specs.declared.LogRead.{LogRead}
 
--- 01 "Program": "per entry five fields"
-abbrev pub entryFields : ℕ
-entryFields = EntryWidth
-
--- 01 "Program": "and LF, 41 bytes"
+-- 01 "Program": "per entry five fields and LF, 41 bytes"
 abbrev pub entryBytes : ℕ
-entryBytes = lineBytes entryFields
+entryBytes = lineBytes EntryWidth
 
 -- 01 "Program": "at most 512"
 abbrev pub entriesMax : ℕ
@@ -41,7 +37,7 @@ unfoldable pub logOf : ℕ → List ℕ → Log
 logOf size bytes =
     cond (not (eqb (size % entryBytes) 0)) (refused 3)
     (cond (ltb entriesMax (size / entryBytes)) (refused 4)
-    (logFields (tableOf entryFields (size / entryBytes) bytes)))
+    (logFields (tableOf EntryWidth (size / entryBytes) bytes)))
 
 -- what a whole log holds
 abbrev pub wholeLog : List ℕ → Log
@@ -59,5 +55,5 @@ saidLog r left = record { refusal = r .refusal; count = r .entries; numbers = le
 
 -- a refusal leaves the lent slice as it was; else its first elements are the entries' numbers
 abbrev pub logLeft : Log → List ℤ → LogOutcome
-logLeft (entries l) lent = record { refusal = 0; count = length l / entryFields; numbers = l ++ drop (length l) lent }
+logLeft (entries l) lent = record { refusal = 0; count = length l / EntryWidth; numbers = l ++ drop (length l) lent }
 logLeft (refused k) lent = record { refusal = k; count = 0; numbers = lent }

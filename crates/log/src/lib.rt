@@ -5,7 +5,8 @@ ghost use mathlib.Core.List.{_++_};
 ghost use Prim.Native.Nat.{_*_, _≤_};
 ghost use lib.ListN.{length, take, drop};
 ghost use Rattle.tables.specs.Table.{tableOf, given};
-ghost use Rattle.log.specs.Log.{entryFields, entriesMax, logOf, saidLog, logLeft};
+ghost use Rattle.entries.specs.Entry.{EntryWidth};
+ghost use Rattle.log.specs.Log.{entriesMax, logOf, saidLog, logLeft};
 
 // How many bytes an entry has, and how many entries a log has at most.
 const ENTRY_BYTES: usize = 41;
@@ -20,7 +21,7 @@ pub struct LogRead {
 
 // Room for the numbers of the longest log.
 pub fn entry_room() -> [i64; 2560]
-    ensures { λ r. ⌜ length r ≡ entryFields * entriesMax ⌝ }
+    ensures { λ r. ⌜ length r ≡ EntryWidth * entriesMax ⌝ }
 {
     [0i64; 2560]
 }
@@ -28,8 +29,8 @@ pub fn entry_room() -> [i64; 2560]
 // The numbers of n entries into the first elements of a slice. Whether the fields and line ends are well formed; a byte that is
 // missing makes them malformed.
 fn fields(bytes: &[u8], n: usize, numbers: &mut [i64]) -> bool
-    requires { ⌜ (n ≤ entriesMax) × (entryFields * entriesMax ≤ length (now numbers)) ⌝ }
-    ensures { λ r. ⌜ tableOf entryFields n (now (bytes .entry)) ≡ given r (take (entryFields * n) (now (numbers .exit))) ⌝ }
+    requires { ⌜ (n ≤ entriesMax) × (EntryWidth * entriesMax ≤ length (now numbers)) ⌝ }
+    ensures { λ r. ⌜ tableOf EntryWidth n (now (bytes .entry)) ≡ given r (take (EntryWidth * n) (now (numbers .exit))) ⌝ }
 {
     if bytes.len() < ENTRY_BYTES * n {
         return false;
@@ -62,7 +63,7 @@ fn refused(refusal: u64) -> LogRead
 // A log of `size` bytes, of which the first that an accepted log can have are enough: its entries' numbers into the first elements
 // of the lent slice, or the first of 3, 4, 5 that meets it. A refused log leaves the slice as it was.
 pub fn read_log(size: usize, bytes: &[u8], entries: &mut [i64]) -> LogRead
-    requires { ⌜ entryFields * entriesMax ≤ length (now entries) ⌝ }
+    requires { ⌜ EntryWidth * entriesMax ≤ length (now entries) ⌝ }
     ensures { λ r. ⌜ saidLog r (now (entries .exit)) ≡ logLeft (logOf size (now (bytes .entry))) (now (entries .entry)) ⌝ }
 {
     if size % ENTRY_BYTES != 0 {

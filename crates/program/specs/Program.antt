@@ -8,10 +8,10 @@ use Rattle.io.specs.Counts.{Counts}
 use Rattle.book.specs.declared.Book.{Book}
 use Rattle.book.specs.Books.{freshBook}
 use Rattle.reading.specs.Reading.{chartRefusalOf}
-use Rattle.entries.specs.Entry.{entriesOf}
+use Rattle.entries.specs.Entry.{EntryWidth, entriesOf}
 use Rattle.accounts.specs.Batch.{bookAfter, answersFrom}
 use Rattle.estivolh.specs.Account.{queries}
-use Rattle.log.specs.Log.{Log, entryFields, entriesMax, logOf}
+use Rattle.log.specs.Log.{Log, entriesMax, logOf}
 use Rattle.log.specs.Log.Log.{entries, refused}
 use Rattle.report.specs.Lines.{answerBytes, bookBytes, programSections, refusalLine, outputOf}
 use Rattle.report.specs.Laid.{laid}
@@ -50,5 +50,5 @@ pub record Printed (old text new : List ℕ) (size : ℕ) : Type 0 where
 
 -- the numbers of at most as many entries as a log has
 pub record WholeEntries (es : List ℤ) : Type 0 where
-  pub whole : length es % entryFields ≡ 0
-  pub few : length es / entryFields ≤ entriesMax
+  pub whole : length es % EntryWidth ≡ 0
+  pub few : length es / EntryWidth ≤ entriesMax

@@ -7,7 +7,7 @@ use lib.IntN.{ℤ}
 use lib.ListN.{length, drop}
 use lib.Seq.{length-take-le, take-at}
 use Rattle.tables.specs.Table.{given}
-use Rattle.log.specs.Log.{entryFields}
+use Rattle.entries.specs.Entry.{EntryWidth}
 use Rattle.log.proofs.Laws.{table-short}
 use borrow.Author.Needs.{needs}
 use Rattle.log.proofs.fields.Statement.{statement}
@@ -17,7 +17,7 @@ mul-if1 : tie.Need-mul-if1
 mul-if1 c = search needs
 
 returns : tie.Need-returns
-returns c = table-short entryFields (c .before .before .args .n) (c .before .before .args .bytes .now) (c .if1 .taken)
+returns c = table-short EntryWidth (c .before .before .args .n) (c .before .before .args .bytes .now) (c .if1 .taken)
 
 mul-k : tie.Need-mul-k
 mul-k c = search needs
@@ -28,14 +28,14 @@ slice-relend-prefix-table c = search needs
 slice-aggregate-table : tie.Need-slice-aggregate-table
 slice-aggregate-table c =
     let a = c .before .before .before .args in
-    let l : entryFields * a .n ≤ length (a .numbers .now) = omega arith in
-    sym (length-take-le (entryFields * a .n) (a .numbers .now) l)
+    let l : EntryWidth * a .n ≤ length (a .numbers .now) = omega arith in
+    sym (length-take-le (EntryWidth * a .n) (a .numbers .now) l)
 
 table-requires : tie.Need-table-requires
 table-requires c κs =
     let a = c .before .before .before .args in
-    let l : entryFields * a .n ≤ length (a .numbers .now) = omega arith in
-    ((omega arith, omega arith), (omega arith, length-take-le (entryFields * a .n) (a .numbers .now) l))
+    let l : EntryWidth * a .n ≤ length (a .numbers .now) = omega arith in
+    ((omega arith, omega arith), (omega arith, length-take-le (EntryWidth * a .n) (a .numbers .now) l))
 
 same-length : tie.Need-same-length
 same-length c = search needs
@@ -43,7 +43,7 @@ same-length c = search needs
 returns-2 : tie.Need-returns-2
 returns-2 c =
     let a = c .before .before .before .before .before .args in
-    let k = entryFields * a .n in
+    let k = EntryWidth * a .n in
     let new = c .before .table .last .1 .1 .1 .1 .0 in
     let h : k ≤ length (a .numbers .now) = omega arith in
     let l : length new ≡ k = c .before .table .kept .1 .1 .1 .1 .0 ∙ length-take-le k (a .numbers .now) h in

@@ -5,7 +5,8 @@ use native.Mathlib.Omega.{arith}
 use borrow.Author.Tests.{not-true, not-false}
 use lib.ListN.{length, take}
 use lib.Seq.{length-take-le}
-use Rattle.log.specs.Log.{entryFields, entryBytes, entriesMax}
+use Rattle.entries.specs.Entry.{EntryWidth}
+use Rattle.log.specs.Log.{entryBytes, entriesMax}
 use Rattle.log.proofs.Laws.{log-length, log-count, log-fields, fields-read, fields-malformed, left-refused, left-entries}
 use borrow.Author.Needs.{needs}
 use Rattle.log.proofs.read_log.Statement.{statement}
@@ -56,16 +57,16 @@ array-share-prefix-numbers c = search needs
 
 slice-aggregate-copy-numbers : tie.Need-slice-aggregate-copy-numbers
 slice-aggregate-copy-numbers c =
-    let k = entryFields * (c .before .before .before .before .before .before .before .before .before .args .size / entryBytes) in
+    let k = EntryWidth * (c .before .before .before .before .before .before .before .before .before .args .size / entryBytes) in
     let f = c .before .before .before .fields in
-    let r : length (f .last .1 .1 .0) ≡ entryFields * entriesMax = search needs in
+    let r : length (f .last .1 .1 .0) ≡ EntryWidth * entriesMax = search needs in
     sym (length-take-le k (f .last .1 .1 .0) (omega arith))
 
 copy-numbers-requires : tie.Need-copy-numbers-requires
 copy-numbers-requires c κs =
-    let k = entryFields * (c .before .before .before .before .before .before .before .before .before .before .args .size / entryBytes) in
+    let k = EntryWidth * (c .before .before .before .before .before .before .before .before .before .before .args .size / entryBytes) in
     let f = c .before .before .before .before .fields in
-    let r : length (f .last .1 .1 .0) ≡ entryFields * entriesMax = search needs in
+    let r : length (f .last .1 .1 .0) ≡ EntryWidth * entriesMax = search needs in
     omega (arith, length-take-le k (f .last .1 .1 .0) (omega arith))
 
 same-length : tie.Need-same-length
@@ -77,10 +78,10 @@ returns-4 c =
     let n = a .size / entryBytes in
     let f = c .before .before .before .before .before .before .fields in
     let numbers = f .last .1 .1 .0 in
-    let room : length numbers ≡ entryFields * entriesMax = search needs in
-    let some : length (take (entryFields * n) numbers) ≡ entryFields * n = length-take-le (entryFields * n) numbers (omega arith) in
+    let room : length numbers ≡ EntryWidth * entriesMax = search needs in
+    let some : length (take (EntryWidth * n) numbers) ≡ EntryWidth * n = length-take-le (EntryWidth * n) numbers (omega arith) in
     rw (c .before .copy-numbers .ensures)
-    (left-entries _ n _ (take (entryFields * n) numbers) (a .entries .now)
+    (left-entries _ n _ (take (EntryWidth * n) numbers) (a .entries .now)
     (log-fields (a .size) (a .bytes .now) (omega arith) (omega arith) ∙ fields-read _ (f .result) _ (f .ensures) (not-false (f .result) (c .before .before .before .before .if3 .left)))
     refl refl some)
 

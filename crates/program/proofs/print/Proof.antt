@@ -4,7 +4,8 @@ use mathlib.Core.Path.{_≡_, sym, _∙_}
 use native.Mathlib.Omega.{arith}
 use lib.ListN.{take}
 use lib.Seq.{length-take-le}
-use Rattle.log.specs.Log.{entryFields, logOf}
+use Rattle.entries.specs.Entry.{EntryWidth}
+use Rattle.log.specs.Log.{logOf}
 use Rattle.log.specs.Log.Log.{refused}
 use Rattle.log.specs.Laws.{entered, read-refused}
 use Rattle.report.specs.Lines.{refusalBytes, refusalLine}
@@ -80,7 +81,7 @@ slice-aggregate-print-entries c =
     let a = s .before .before .before .before .before .before .before .before .args in
     let r = s .read-log in
     let e = entered (a .size) (a .log .now) (r .result) (r .last .1 .1 .0) (s .before .before .entry-room .result) (r .ensures) (c .before .before .if2 .left) in
-    sym (length-take-le (entryFields * r .result .entries) (r .last .1 .1 .0) (e .room))
+    sym (length-take-le (EntryWidth * r .result .entries) (r .last .1 .1 .0) (e .room))
 
 print-entries-requires : tie.Need-print-entries-requires
 print-entries-requires c κs =
@@ -88,7 +89,7 @@ print-entries-requires c κs =
     let a = s .before .before .before .before .before .before .before .before .args in
     let r = s .read-log in
     let e = entered (a .size) (a .log .now) (r .result) (r .last .1 .1 .0) (s .before .before .entry-room .result) (r .ensures) (c .before .before .before .if2 .left) in
-    let l = length-take-le (entryFields * r .result .entries) (r .last .1 .1 .0) (e .room) in
+    let l = length-take-le (EntryWidth * r .result .entries) (r .last .1 .1 .0) (e .room) in
     (sym (s .before .before .before .before .check .ensures) ∙ s .before .before .before .if1 .left, (record { whole = omega (arith, l, e .few); few = omega (arith, l, e .few) }, omega arith))
 
 same-length-3 : tie.Need-same-length-3
@@ -100,7 +101,7 @@ returns-3 c =
     let a = s .before .before .before .before .before .before .before .before .args in
     let r = s .read-log in
     let e = entered (a .size) (a .log .now) (r .result) (r .last .1 .1 .0) (s .before .before .entry-room .result) (r .ensures) (c .before .before .before .before .before .before .if2 .left) in
-    rw (printed-entries (a .chart .now) (a .size) (a .log .now) (take (entryFields * r .result .entries) (r .last .1 .1 .0)) (sym (s .before .before .before .before .check .ensures) ∙ s .before .before .before .if1 .left) (e .numbers))
+    rw (printed-entries (a .chart .now) (a .size) (a .log .now) (take (EntryWidth * r .result .entries) (r .last .1 .1 .0)) (sym (s .before .before .before .before .check .ensures) ∙ s .before .before .before .if1 .left) (e .numbers))
     (c .before .before .print-entries .ensures)
 
 pub print-spec : {M : Type 1} → statement M

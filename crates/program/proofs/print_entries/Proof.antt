@@ -4,7 +4,8 @@ use mathlib.Core.Path.{_≡_, sym, ap, _∙_}
 use native.Mathlib.Omega.{arith}
 use lib.ListN.{length, take}
 use lib.Seq.{length-take-le}
-use Rattle.log.specs.Log.{entryFields, entriesMax}
+use Rattle.entries.specs.Entry.{EntryWidth}
+use Rattle.log.specs.Log.{entriesMax}
 use Rattle.book.specs.declared.Returned.{Returned}
 use Rattle.accounts.specs.Batch.{outcome, batchOf}
 use Rattle.report.specs.Lines.{answerBytes, bookBytes, outputOf}
@@ -33,14 +34,14 @@ array-share-prefix-answers c = search needs
 
 slice-aggregate-put-output : tie.Need-slice-aggregate-put-output
 slice-aggregate-put-output c =
-    let n = length (c .before .before .before .before .before .before .before .before .before .args .entries .now) / entryFields in
+    let n = length (c .before .before .before .before .before .before .before .before .before .args .entries .now) / EntryWidth in
     let left = c .before .before .before .batch .last .1 .1 .1 .0 in
     let k : length left ≡ entriesMax = search needs in
     sym (length-take-le n left (omega arith))
 
 put-output-requires : tie.Need-put-output-requires
 put-output-requires c κs =
-    let n = length (c .before .before .before .before .before .before .before .before .before .args .entries .now) / entryFields in
+    let n = length (c .before .before .before .before .before .before .before .before .before .args .entries .now) / EntryWidth in
     let left = c .before .before .before .batch .last .1 .1 .1 .0 in
     let k : length left ≡ entriesMax = search needs in
     omega (arith, length-take-le n left (omega arith))
@@ -57,7 +58,7 @@ returns c =
     let room = c .before .before .before .before .before .before .before .before .before .answer-room .result in
     let b = c .before .before .before .before .before .before .batch in
     let p = c .before .before .put-output in
-    let n = length es / entryFields in
+    let n = length es / EntryWidth in
     let left = b .last .1 .1 .1 .0 in
     let k : length room ≡ entriesMax = search needs in
     let m : length left ≡ entriesMax = search needs in
