@@ -106,7 +106,7 @@ fn is_overhung(vertices: &[i64], edges: &[usize], faces: &[usize], h: usize) -> 
         return false;
     }
     let a = chart::from_of(vertices, edges, faces, h);
-    let b = chart::from_of(vertices, edges, faces, chart::partner_of(h));
+    let b = chart::to_of(vertices, edges, faces, h);
     some_left(vertices, a, b)
 }
 
