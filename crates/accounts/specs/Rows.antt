@@ -27,12 +27,14 @@ history = Bend 0 5 ∷ Bend 1 9 ∷ Splice 0 ∷ Bend 0 7 ∷ Refused 14 ∷ Ben
 abbrev pub hundred : Queries
 hundred chart method place = Value (ofBits binary64 0x4059_0000_0000_0000)
 
+-- a bend and a splice of section 0
 abbrev pub bend : Entry
 bend = record { kind = pos 1; section = pos 0; x = pos 2; y = pos 3; method = pos 1 }
 
 abbrev pub splice : Entry
 splice = record { kind = pos 2; section = pos 0; x = pos 0; y = pos 0; method = pos 0 }
 
+-- the ropes' books: two bends, a splice, a bend in two batches
 abbrev pub ropeOne : Book
 ropeOne = bookAfter hundred [] (bookAfter hundred [] (fresh 2) (bend ∷ bend ∷ splice ∷ [])) (bend ∷ [])
 

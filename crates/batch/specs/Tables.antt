@@ -37,5 +37,6 @@ pub record Worked : Type 0 where
 abbrev pub worked : Book → List ℕ → Worked
 worked b left = record { book = b; answers = left }
 
+-- every entry in order; elements past the last answer are unchanged
 abbrev pub workedOf : Queries → List ℕ → Book → List ℤ → List ℕ → Worked
 workedOf Q bytes b es lent = worked (bookAfter Q bytes b (entriesOf es)) (overlay (answersFrom Q bytes b (entriesOf es)) lent)

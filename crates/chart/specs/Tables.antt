@@ -20,6 +20,7 @@ unsignedAll zs = map unsigned zs
 abbrev pub rows : {A : Type 0} → List A → ℕ
 rows t = length t / 4
 
+-- ---- the columns
 abbrev pub placeOf : List ℤ → ℕ → Place
 placeOf vs v = record { x = getD vs (v * 4) (pos 0); y = getD vs (v * 4 + 1) (pos 0) }
 

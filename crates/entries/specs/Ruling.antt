@@ -30,6 +30,7 @@ answerOf (Refused k) = RefusedEntry + k
 abbrev pub LastRefusal : ℕ
 LastRefusal = 17
 
+-- a refusal's number is one of them
 abbrev pub UpTo17 : Ruling → Type 0
 UpTo17 (Bend i n) = Unit {0}
 UpTo17 (Splice i) = Unit {0}

@@ -17,13 +17,13 @@ use Rattle.interpolate.specs.declared.Blend.{Blend}
 abbrev pub Owners : Chart → List ℕ → Type 0
 Owners c os = (k : ℕ) → k < length os → getD os k 0 < c .vertices
 
--- `interpolate`: total_sum + i(vertex) * weight, one after the other
+-- total_sum + i(vertex) * weight, one after the other
 unfoldable pub sumFrom : Chart → Float → List ℕ → List Float → Float
 sumFrom c total [] ws = total
 sumFrom c total (v ∷ os) [] = total
 sumFrom c total (v ∷ os) (w ∷ ws) = sumFrom c (total +f realOf (c .value v) *f w) os ws
 
--- from zero on
+-- `interpolate`, from zero on
 abbrev pub valueSum : Chart → List ℕ → List Float → Float
 valueSum c os ws = sumFrom c f0 os ws
 
@@ -66,8 +66,10 @@ blendFrom c q s (v ∷ os) (w ∷ ws) =
     cond (eq (r2Of c q v) f0) (realOf (c .value v))
     (blendFrom c q (blendOn s (realOf (c .value v)) (r2Of c q v) (zetaOf c q v) w) os ws)
 
+-- from zero on
 abbrev pub noBlend : Blend
 noBlend = record { alpha = f0; beta = f0; «sum_c1_weights» = f0; «sum_c1» = f0; «sum_c0» = f0 }
 
+-- `interpolate_gradient`
 abbrev pub valueBlend : Chart → Place → List ℕ → List Float → Float
 valueBlend c q os ws = blendFrom c q noBlend os ws

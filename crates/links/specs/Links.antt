@@ -57,6 +57,7 @@ linked c h =
     && (endsDiffer c h
     && (prevNext c h && (nextPrev c h && (keepsFace c h && (threeNexts c h && ofItsFace c h)))))
 
+-- what breaks them
 abbrev pub unlinked : Chart → ℕ → Bool
 unlinked c h = not (linked c h)
 

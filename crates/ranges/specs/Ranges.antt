@@ -48,6 +48,7 @@ badHalfEdge vertices faces es h =
 unfoldable pub badFace : ℕ → List ℤ → ℕ → Bool
 badFace halfEdges fs f = notBelow halfEdges (getD fs f (pos 0))
 
+-- 6 meets the tables
 unfoldable pub outOfRange : List ℤ → List ℤ → List ℤ → Bool
 outOfRange vs es fs =
     some (badVertex (rows es) vs) (rows vs)

@@ -48,9 +48,11 @@ abbrev pub fromShares : ℕ → Chart → Place → List ℕ → Shares → Inte
 fromShares m c q os broken = Refused 15
 fromShares m c q os (shares ws) = Value (byMethod m c q os ws)
 
+-- methods 2 and 3, from the list of natural neighbour edges
 abbrev pub naturalValue : ℕ → Chart → Place → List ℕ → InterpolatedValue
 naturalValue m c q list = fromShares m c q (map (c .origin) list) (sharesOf c q list)
 
+-- at a location that was found
 abbrev pub valueAt : ℕ → Chart → Place → Location → InterpolatedValue
 valueAt m c q l = cond (eqb m 1) (barycentricValue c (barycentricAt c q l)) (naturalValue m c q (neighborsOf c q l .edges))
 
