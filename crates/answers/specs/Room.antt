@@ -6,8 +6,8 @@ use lib.Dec.{eqb}
 use lib.IntN.{ℤ, pos, negsuc}
 use Rattle.text.specs.declared.Field.{Field}
 use Rattle.text.specs.declared.Field.the-variants.{Number, Malformed}
-use Rattle.estivolh.specs.declared.NaturalNeighbors.{NaturalNeighbors}
-use Rattle.estivolh.specs.declared.NaturalNeighbors.the-variants.{Listed, Refused}
+use Rattle.query.specs.declared.NaturalNeighbors.{NaturalNeighbors}
+use Rattle.query.specs.declared.NaturalNeighbors.the-variants.{Listed, Refused}
 use Rattle.answers.specs.Decimal.{decimalOf}
 use Rattle.answers.specs.declared.rooms.Room.{Room}
 use Rattle.answers.specs.declared.rooms.Room.the-variants.{Length, NoRoom}

@@ -28,7 +28,7 @@ use Rattle.entries.specs.Ruling.{with17, answerOf}
 use Rattle.accounts.specs.Rulings.{Queries, bendRuling, entryRuling}
 use Rattle.accounts.specs.Batch.{bookVerdict, bookChange, bookAfter, answersFrom, overlay, badSlices, Outcome, byRefusal, batchOf}
 use Rattle.batch.specs.Tables.{onTables}
-use Rattle.estivolh.specs.Value.{valueIn}
+use Rattle.query.specs.Value.{valueIn}
 
 -- ---- charge
 -- the whole number, or the number of the refusal

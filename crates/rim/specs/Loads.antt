@@ -22,12 +22,12 @@ use Rattle.locate.specs.declared.Location.the-variants.{OnVertex, OnEdge, OnFac
 use Rattle.locate.specs.Location.{locationOf}
 use Rattle.neighbors.specs.Neighbors.{edgeNeighbors, neighborsOf}
 use Rattle.weights.specs.Barycentric.{twoPointInterpolation, barycentricInterpolation, weighTwo, weighThree}
-use Rattle.estivolh.specs.Location.{locateOn, locateOf}
-use Rattle.estivolh.specs.Location.Located.{at, turnedDown}
-use Rattle.estivolh.specs.Weights.{Weighted, barycentricOn, barycentricOf}
-use Rattle.estivolh.specs.Weights.Shares.{shares}
-use Rattle.estivolh.specs.Natural.{edgesLeft, edgesOn, naturalEdgesOf}
-use Rattle.estivolh.specs.Natural.Tally.{listed}
+use Rattle.query.specs.Location.{locateOn, locateOf}
+use Rattle.query.specs.Location.Located.{at, turnedDown}
+use Rattle.query.specs.Weights.{Weighted, barycentricOn, barycentricOf}
+use Rattle.query.specs.Weights.Shares.{shares}
+use Rattle.query.specs.Natural.{edgesLeft, edgesOn, naturalEdgesOf}
+use Rattle.query.specs.Natural.Tally.{listed}
 use Rattle.estivolh.specs.Account.{costOf}
 use Rattle.estivolh.specs.Account.{Cost as C}
 use Rattle.rim.specs.TriangleA.{fileA, verticesA, edgesA, facesA}

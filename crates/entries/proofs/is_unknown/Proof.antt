@@ -1,9 +1,11 @@
 -- `entries::is_unknown` meets its contract: the section, then the kind. Assumes nothing.
-use mathlib.Core.Path.{_≡_, sym, _∙_}
+use mathlib.Core.Path.{_≡_, sym, ap, _∙_}
+use mathlib.Core.Bool.{Bool, _||_}
 use mir.Syntax.{w64}
 use mir.Val.{SFits}
 use mir.Facts.{toZ-ofZ}
 use Rattle.ranges.specs.Ranges.{notBelow}
+use Rattle.entries.specs.Entry.{unknownKind}
 use borrow.Author.Needs.{needs}
 use Rattle.entries.proofs.is_unknown.Statement.{statement}
 use Rattle.entries.proofs.is_unknown.Tie as tie
@@ -18,7 +20,9 @@ section-test c =
     simp (toZ-ofZ f) at (c .is-not-below .ensures)
 
 returns : tie.Need-returns
-returns c = rw (sym (section-test (c .before)) ∙ c .if1 .taken)
+returns c =
+    let e = c .before .before .before .args .e in
+    sym (ap (λ (t : Bool). t || unknownKind (e .kind) (e .x) (e .y) (e .method)) (sym (section-test (c .before)) ∙ c .if1 .taken))
 
 is-unknown-kind-requires : tie.Need-is-unknown-kind-requires
 is-unknown-kind-requires c κs = search needs
@@ -32,7 +36,7 @@ returns-2 c =
     let y : SFits w64 (e .y) = record { sfits = c .before .before .struct-told4 .given .1 .1 .1 .0 .1 } in
     let m : SFits w64 (e .method) = record { sfits = c .before .struct-told5 .given .1 .1 .1 .1 .0 .1 } in
     let u = simp (toZ-ofZ k, toZ-ofZ x, toZ-ofZ y, toZ-ofZ m) at (c .is-unknown-kind .ensures) in
-    rw (sym (section-test (s .before)) ∙ s .if1 .left) u
+    u ∙ sym (ap (λ (t : Bool). t || unknownKind (e .kind) (e .x) (e .y) (e .method)) (sym (section-test (s .before)) ∙ s .if1 .left))
 
 pub is-unknown-spec : {M : Type 1} → statement M
 is-unknown-spec =

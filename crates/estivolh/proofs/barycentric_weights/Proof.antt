@@ -3,7 +3,7 @@ use mathlib.Core.Path.{sym, ap, _∙_}
 use mir.Facts.{toZ-ofZ}
 use Rattle.checks.specs.Checks.{Loaded}
 use Rattle.reading.specs.Laws.{head-counted, chart-head, chart-body}
-use Rattle.estivolh.specs.Weights.{weightsSay, barycentricIn}
+use Rattle.query.specs.Weights.{weightsSay, barycentricIn}
 use borrow.Author.Needs.{needs}
 use Rattle.estivolh.proofs.barycentric_weights.Statement.{statement}
 use Rattle.estivolh.proofs.barycentric_weights.Tie as tie

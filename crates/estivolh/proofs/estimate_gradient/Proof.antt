@@ -2,7 +2,7 @@
 use mathlib.Core.Path.{sym, ap, _∙_}
 use Rattle.checks.specs.Checks.{Loaded}
 use Rattle.reading.specs.Laws.{head-counted, chart-head, chart-body}
-use Rattle.estivolh.specs.Gradient.{gradientIn}
+use Rattle.query.specs.Gradient.{gradientIn}
 use borrow.Author.Needs.{needs}
 use Rattle.estivolh.proofs.estimate_gradient.Statement.{statement}
 use Rattle.estivolh.proofs.estimate_gradient.Tie as tie

@@ -4,7 +4,7 @@ use mir.Facts.{toZ-ofZ}
 use Rattle.checks.specs.Checks.{Loaded}
 use Rattle.reading.specs.Laws.{head-counted, chart-head, chart-body}
 use Rattle.values.specs.Value.{methodOf}
-use Rattle.estivolh.specs.Value.{valueSays, valueIn}
+use Rattle.query.specs.Value.{valueSays, valueIn}
 use borrow.Author.Needs.{needs}
 use Rattle.estivolh.proofs.interpolate.Statement.{statement}
 use Rattle.estivolh.proofs.interpolate.Tie as tie

@@ -1,10 +1,9 @@
 -- `estivolh::natural_neighbor_edges` meets its contract: the head decides, then 2, then the body. Assumes nothing.
 use mathlib.Core.Path.{sym, ap, _∙_}
 use mir.Facts.{toZ-ofZ}
-use borrow.Author.Tests.{lt-ltb, le-ltb}
 use Rattle.reading.specs.declared.Head.{Head}
 use Rattle.reading.specs.Laws.{head-counted}
-use Rattle.estivolh.specs.Natural.{edgesAfter}
+use Rattle.query.specs.Natural.{edgesAfter, edges-short, edges-body}
 use borrow.Author.Needs.{needs}
 use Rattle.estivolh.proofs.natural_neighbor_edges.Statement.{statement}
 use Rattle.estivolh.proofs.natural_neighbor_edges.Tie as tie
@@ -21,7 +20,7 @@ enum-known-head-2 c = search needs
 returns : tie.Need-returns
 returns c =
     let a = c .before .before .before .before .before .before .before .args in
-    rw (sym (c .before .before .before .before .read-head .ensures) ∙ c .before .before .head2 .given .1, lt-ltb _ _ (c .if1 .taken))
+    edges-short (a .chart .now) _ _ _ _ (sym (c .before .before .before .before .read-head .ensures) ∙ c .before .before .head2 .given .1) _ (c .if1 .taken)
 
 edges-in-requires : tie.Need-edges-in-requires
 edges-in-requires c κs =
@@ -40,8 +39,8 @@ returns-3 : tie.Need-returns-3
 returns-3 c =
     let s = c .before .before .before .before .before .before .before .before .before .before .before in
     let a = s .args in
-    rw (sym (c .before .before .before .before .before .before .before .before .read-head .ensures) ∙ c .before .before .before .before .before .before .head2 .given .1, le-ltb _ _ (c .before .before .before .before .if1 .left))
-    (simp (toZ-ofZ (s .fits .x), toZ-ofZ (s .fits .y)) at (c .before .before .edges-in .ensures))
+    simp (toZ-ofZ (s .fits .x), toZ-ofZ (s .fits .y)) at (c .before .before .edges-in .ensures)
+    ∙ edges-body (a .chart .now) _ _ _ _ (sym (c .before .before .before .before .before .before .before .before .read-head .ensures) ∙ c .before .before .before .before .before .before .head2 .given .1) _ (c .before .before .before .before .if1 .left)
 
 pub natural-neighbor-edges-spec : {M : Type 1} → statement M
 natural-neighbor-edges-spec =

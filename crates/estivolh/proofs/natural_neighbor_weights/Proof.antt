@@ -1,10 +1,9 @@
 -- `estivolh::natural_neighbor_weights` meets its contract: the head decides, then 2, then the body. Assumes nothing.
 use mathlib.Core.Path.{sym, ap, _∙_}
 use mir.Facts.{toZ-ofZ}
-use borrow.Author.Tests.{lt-ltb, le-ltb}
 use Rattle.reading.specs.declared.Head.{Head}
 use Rattle.reading.specs.Laws.{head-counted}
-use Rattle.estivolh.specs.Natural.{sharesAfter}
+use Rattle.query.specs.Natural.{sharesAfter, shares-short, shares-short-2, shares-body}
 use borrow.Author.Needs.{needs}
 use Rattle.estivolh.proofs.natural_neighbor_weights.Statement.{statement}
 use Rattle.estivolh.proofs.natural_neighbor_weights.Tie as tie
@@ -21,12 +20,12 @@ enum-known-head-2 c = search needs
 returns : tie.Need-returns
 returns c =
     let a = c .before .before .before .before .before .before .before .before .args in
-    rw (sym (c .before .before .before .before .read-head .ensures) ∙ c .before .before .head2 .given .1, lt-ltb _ _ (c .if1 .taken))
+    shares-short (a .chart .now) _ _ _ _ (sym (c .before .before .before .before .read-head .ensures) ∙ c .before .before .head2 .given .1) _ _ (c .if1 .taken)
 
 returns-2 : tie.Need-returns-2
 returns-2 c =
     let a = c .before .before .before .before .before .before .before .before .before .args in
-    rw (sym (c .before .before .before .before .before .read-head .ensures) ∙ c .before .before .before .head2 .given .1, le-ltb _ _ (c .before .if1 .left), lt-ltb _ _ (c .if2 .taken))
+    shares-short-2 (a .chart .now) _ _ _ _ (sym (c .before .before .before .before .before .read-head .ensures) ∙ c .before .before .before .head2 .given .1) _ _ (c .before .if1 .left) (c .if2 .taken)
 
 shares-in-requires : tie.Need-shares-in-requires
 shares-in-requires c κs =
@@ -48,8 +47,8 @@ returns-4 : tie.Need-returns-4
 returns-4 c =
     let s = c .before .before .before .before .before .before .before .before .before .before .before .before .before .before .before .before in
     let a = s .args in
-    rw (sym (c .before .before .before .before .before .before .before .before .before .before .before .before .read-head .ensures) ∙ c .before .before .before .before .before .before .before .before .before .before .head2 .given .1, le-ltb _ _ (c .before .before .before .before .before .before .before .before .if1 .left), le-ltb _ _ (c .before .before .before .before .before .before .before .if2 .left))
-    (simp (toZ-ofZ (s .fits .x), toZ-ofZ (s .fits .y)) at (c .before .before .before .before .shares-in .ensures))
+    simp (toZ-ofZ (s .fits .x), toZ-ofZ (s .fits .y)) at (c .before .before .before .before .shares-in .ensures)
+    ∙ shares-body (a .chart .now) _ _ _ _ (sym (c .before .before .before .before .before .before .before .before .before .before .before .before .read-head .ensures) ∙ c .before .before .before .before .before .before .before .before .before .before .head2 .given .1) _ _ (c .before .before .before .before .before .before .before .before .if1 .left) (c .before .before .before .before .before .before .before .if2 .left)
 
 pub natural-neighbor-weights-spec : {M : Type 1} → statement M
 natural-neighbor-weights-spec =
