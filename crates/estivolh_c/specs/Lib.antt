@@ -1,3 +1,4 @@
 pub mod Lent
 pub mod Books
-pub mod Calls
+pub mod Queries
+pub mod Account

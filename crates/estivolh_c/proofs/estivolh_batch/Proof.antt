@@ -1,21 +1,17 @@
 -- `estivolh_c::estivolh_batch` meets its contract: 2 for a short book, else what `estivolh::batch` leaves. Assumes nothing.
-use mathlib.Core.Path.{sym, ap, _∙_}
-use borrow.Author.Tests.{lt-ltb, le-ltb}
-use mathlib.Core.Bool.{Bool, cond}
+use mathlib.Core.Path.{ap, _∙_}
+use Prim.Native.Nat.{ℕ}
 use borrow.Author.Needs.{needs}
 use Rattle.book.specs.declared.Book.{Book}
 use Rattle.accounts.specs.Batch.{Outcome, batchOf}
 use Rattle.estivolh.specs.Account.{queries}
-use Rattle.estivolh_c.specs.Lent.{Left}
-use Rattle.estivolh_c.specs.Books.{bookAt}
-use Rattle.estivolh_c.specs.Calls.{batchLeft, workedLeft}
+use Rattle.estivolh_c.specs.Lent.{Left, short, enough}
+use Rattle.estivolh_c.specs.Account.{batchLeft, workedLeft}
 use Rattle.estivolh_c.proofs.estivolh_batch.Statement.{statement}
 use Rattle.estivolh_c.proofs.estivolh_batch.Tie as tie
 
 returns : tie.Need-returns
-returns c =
-    let a = c .before .before .before .before .args in
-    rw (lt-ltb _ _ (c .if1 .taken))
+returns c = short _ _ _ _ (c .if1 .taken)
 
 read-book-requires : tie.Need-read-book-requires
 read-book-requires c κs = search needs
@@ -37,9 +33,9 @@ returns-2 c =
     let a = c .before .before .before .before .before .before .before .before .before .before .before .before .before .before .args in
     let b = a .book .now in
     let lent = a .answers .now in
-    ap (λ (l : Left). batchLeft (l .answer) (l .slice) (c .before .before .before .before .before .before .batch .last .1 .1 .1 .0)) (c .before .before .put-returned .ensures)
+    ap (λ (l : Left ℕ). batchLeft (l .answer) (l .slice) (c .before .before .before .before .before .before .batch .last .1 .1 .1 .0)) (c .before .before .put-returned .ensures)
     ∙ (ap (λ (o : Outcome). workedLeft o b) (c .before .before .before .before .before .before .batch .ensures ∙ ap (λ (k : Book). batchOf queries k (a .chart .now) (a .entries .now) lent) (c .before .before .before .before .before .before .before .before .read-book .ensures))
-    ∙ sym (ap (λ (t : Bool). cond t (batchLeft 2 b lent) (workedLeft (batchOf queries (bookAt b) (a .chart .now) (a .entries .now) lent) b)) (le-ltb _ _ (c .before .before .before .before .before .before .before .before .before .before .if1 .left))))
+    ∙ enough _ _ _ _ (c .before .before .before .before .before .before .before .before .before .before .if1 .left))
 
 pub estivolh-batch-spec : {M : Type 1} → statement M
 estivolh-batch-spec =

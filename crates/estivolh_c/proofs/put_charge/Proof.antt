@@ -1,0 +1,46 @@
+-- `estivolh_c::put_charge` meets its contract. Assumes nothing.
+use mathlib.Core.Path.{sym, ap, _∙_}
+use Rattle.charge.specs.declared.Charged.{Charged}
+use Rattle.estivolh.specs.Account.{chargeSays}
+use Rattle.estivolh_c.specs.Lent.{left}
+use Rattle.estivolh_c.specs.Account.{costLeft}
+use borrow.Author.Needs.{needs}
+use Rattle.estivolh_c.proofs.put_charge.Statement.{statement}
+use Rattle.estivolh_c.proofs.put_charge.Tie as tie
+
+enum-known-answer : tie.Need-enum-known-answer
+enum-known-answer c = search needs
+
+slice-aggregate-put : tie.Need-slice-aggregate-put
+slice-aggregate-put c = search needs
+
+put-requires : tie.Need-put-requires
+put-requires c κs = search needs
+
+enum-known-answer-2 : tie.Need-enum-known-answer-2
+enum-known-answer-2 c = search needs
+
+returns : tie.Need-returns
+returns c =
+    let a = c .before .before .before .before .args in
+    sym (ap (λ (x : Charged). costLeft (chargeSays x) (a .out .now)) (c .before .answer2 .given .1))
+
+same-length : tie.Need-same-length
+same-length c = search needs
+
+returns-2 : tie.Need-returns-2
+returns-2 c =
+    let a = c .before .before .before .before .before .before .before .before .before .args in
+    ap (left 0) (c .before .before .put .ensures) ∙ sym (ap (λ (x : Charged). costLeft (chargeSays x) (a .out .now)) (c .before .before .before .before .before .before .answer .given .1))
+
+pub put-charge-spec : {M : Type 1} → statement M
+put-charge-spec =
+    tie.close
+    (tie.spec
+    enum-known-answer
+    slice-aggregate-put
+    put-requires
+    enum-known-answer-2
+    returns
+    same-length
+    returns-2)
