@@ -2,3 +2,4 @@ pub mod Lent
 pub mod Books
 pub mod Queries
 pub mod Account
+pub mod Demand

@@ -1,5 +1,8 @@
 -- `estivolh_c::estivolh_barycentric_weights` meets its contract: 2 for a short slice, else what the public call says. Assumes nothing.
-use mathlib.Core.Path.{ap, _∙_}
+use mathlib.Core.Path.{_≡_, ap, _∙_}
+use mathlib.Core.Bool.{true, false}
+use lib.Dec.{ltb}
+use lib.ListN.{length}
 use mir.Facts.{toZ-ofZ}
 use borrow.Author.Tests.{lt-ltb, le-ltb}
 use Rattle.estivolh.specs.Weights.{Shares}
@@ -12,10 +15,17 @@ returns : tie.Need-returns
 returns c = rw (lt-ltb _ _ (c .if1 .taken))
 
 returns-2 : tie.Need-returns-2
-returns-2 c = rw (le-ltb _ _ (c .before .if1 .left), lt-ltb _ _ (c .if2 .taken))
+returns-2 c =
+    let a = c .before .before .before .before .before .before .args in
+    let w : ltb (length (a .weights .now)) 3 ≡ true = lt-ltb _ _ (c .if2 .taken) in
+    rw (le-ltb _ _ (c .before .if1 .left), w)
 
 returns-3 : tie.Need-returns-3
-returns-3 c = rw (le-ltb _ _ (c .before .before .if1 .left), le-ltb _ _ (c .before .if2 .left), lt-ltb _ _ (c .if3 .taken))
+returns-3 c =
+    let a = c .before .before .before .before .before .before .before .args in
+    let w : ltb (length (a .weights .now)) 3 ≡ false = le-ltb _ _ (c .before .if2 .left) in
+    let n : ltb (length (a .found .now)) 1 ≡ true = lt-ltb _ _ (c .if3 .taken) in
+    rw (le-ltb _ _ (c .before .before .if1 .left), w, n)
 
 barycentric-weights-requires : tie.Need-barycentric-weights-requires
 barycentric-weights-requires c κs = search needs
