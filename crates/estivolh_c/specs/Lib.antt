@@ -3,3 +3,4 @@ pub mod Books
 pub mod Queries
 pub mod Account
 pub mod Demand
+pub mod Numbers
