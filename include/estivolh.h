@@ -1,5 +1,5 @@
 /* The public calls of Estivolh for C: wear charts and the rope book. Link libestivolh_c.a (rt staticlib estivolh_c writes it, for
- * x86-64 Linux).
+ * x86-64 Linux); of the C library it needs memcpy and memset.
  *
  * "01" is the document that defines the wear chart and the rope book. Each call returns 0 where it is accepted, or else the number of
  * the refusal that meets it first (enum estivolh_refusal), and then it has written nothing. A lent slice is a pointer and the number of
