@@ -33,11 +33,11 @@ use Rattle.values.specs.Located.{placeRefusal, barycentricAt}
 use Rattle.values.specs.declared.InterpolatedValue.{InterpolatedValue}
 use Rattle.values.specs.declared.InterpolatedValue.the-variants.{Value, Refused}
 use Rattle.values.specs.Value.{methodOf, barycentricValue, fromShares, naturalValue, valueAt, valueFrom, locatedValue, valueOn}
-use Rattle.estivolh.specs.Location as L
-use Rattle.estivolh.specs.Weights as W
-use Rattle.estivolh.specs.Gradient as G
-use Rattle.estivolh.specs.Natural as N
-use Rattle.estivolh.specs.Value as I
+use Rattle.query.specs.Location as L
+use Rattle.query.specs.Weights as W
+use Rattle.query.specs.Gradient as G
+use Rattle.query.specs.Natural as N
+use Rattle.query.specs.Value as I
 use Rattle.estivolh.specs.Account as A
 
 abbrev NotZero : ℕ → Type 0

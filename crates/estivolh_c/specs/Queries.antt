@@ -9,11 +9,11 @@ use lib.IntN.{ℤ}
 use lib.ListN.{length}
 use Rattle.locate.specs.declared.Location.{Location}
 use Rattle.locate.specs.declared.Location.the-variants.{OnVertex, OnEdge, OnFace, OutsideOfConvexHull, NoPlace}
-use Rattle.estivolh.specs.Location as L
-use Rattle.estivolh.specs.Weights as W
-use Rattle.estivolh.specs.Gradient as G
-use Rattle.estivolh.specs.Natural as N
-use Rattle.estivolh.specs.Value as I
+use Rattle.query.specs.Location as L
+use Rattle.query.specs.Weights as W
+use Rattle.query.specs.Gradient as G
+use Rattle.query.specs.Natural as N
+use Rattle.query.specs.Value as I
 use Rattle.estivolh_c.specs.Lent.{over, Left, left}
 
 -- ---- locate: kind and number

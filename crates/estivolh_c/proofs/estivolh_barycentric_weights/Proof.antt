@@ -5,7 +5,7 @@ use lib.Dec.{ltb}
 use lib.ListN.{length}
 use mir.Facts.{toZ-ofZ}
 use borrow.Author.Tests.{lt-ltb, le-ltb}
-use Rattle.estivolh.specs.Weights.{Shares}
+use Rattle.query.specs.Weights.{Shares}
 use Rattle.estivolh_c.specs.Queries.{barycentricLeft}
 use borrow.Author.Needs.{needs}
 use Rattle.estivolh_c.proofs.estivolh_barycentric_weights.Statement.{statement}

@@ -1,6 +1,6 @@
 -- `estivolh_c::estivolh_estimate_gradient` meets its contract: 2 for a short slice, else what the public call says. Assumes nothing.
 use mathlib.Core.Path.{ap, _∙_}
-use Rattle.estivolh.specs.Gradient.{Slope}
+use Rattle.query.specs.Gradient.{Slope}
 use Rattle.estivolh_c.specs.Lent.{short, enough}
 use Rattle.estivolh_c.specs.Queries.{slopeLeft}
 use borrow.Author.Needs.{needs}

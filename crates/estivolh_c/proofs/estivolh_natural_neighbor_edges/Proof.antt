@@ -2,7 +2,7 @@
 use mathlib.Core.Path.{ap, _∙_}
 use Prim.Native.Nat.{ℕ}
 use mir.Facts.{toZ-ofZ}
-use Rattle.estivolh.specs.Natural.{Edges}
+use Rattle.query.specs.Natural.{Edges}
 use Rattle.estivolh_c.specs.Lent.{Left, short, enough}
 use Rattle.estivolh_c.specs.Queries.{edgesLeft, edgesTold}
 use borrow.Author.Needs.{needs}

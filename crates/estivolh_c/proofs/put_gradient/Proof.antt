@@ -1,7 +1,7 @@
 -- `estivolh_c::put_gradient` meets its contract. Assumes nothing.
 use mathlib.Core.Path.{sym, ap, _∙_}
-use Rattle.estivolh.specs.declared.EstimatedGradient.{EstimatedGradient}
-use Rattle.estivolh.specs.Gradient.{gradientSays}
+use Rattle.query.specs.declared.EstimatedGradient.{EstimatedGradient}
+use Rattle.query.specs.Gradient.{gradientSays}
 use Rattle.estivolh_c.specs.Lent.{left}
 use Rattle.estivolh_c.specs.Queries.{slopeLeft}
 use borrow.Author.Needs.{needs}

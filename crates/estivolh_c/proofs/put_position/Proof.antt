@@ -1,7 +1,7 @@
 -- `estivolh_c::put_position` meets its contract. Assumes nothing.
 use mathlib.Core.Path.{sym, ap, _∙_}
-use Rattle.estivolh.specs.declared.PositionInTriangulation.{PositionInTriangulation}
-use Rattle.estivolh.specs.Location.{positionSays}
+use Rattle.query.specs.declared.PositionInTriangulation.{PositionInTriangulation}
+use Rattle.query.specs.Location.{positionSays}
 use Rattle.estivolh_c.specs.Lent.{left}
 use Rattle.estivolh_c.specs.Queries.{locatedLeft}
 use borrow.Author.Needs.{needs}

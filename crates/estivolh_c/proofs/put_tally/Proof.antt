@@ -1,7 +1,7 @@
 -- `estivolh_c::put_tally` meets its contract. Assumes nothing.
 use mathlib.Core.Path.{sym, ap, _∙_}
-use Rattle.estivolh.specs.declared.NaturalNeighbors.{NaturalNeighbors}
-use Rattle.estivolh.specs.Natural.{neighborsSay}
+use Rattle.query.specs.declared.NaturalNeighbors.{NaturalNeighbors}
+use Rattle.query.specs.Natural.{neighborsSay}
 use Rattle.estivolh_c.specs.Lent.{left}
 use Rattle.estivolh_c.specs.Queries.{tallyLeft}
 use borrow.Author.Needs.{needs}
