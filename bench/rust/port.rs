@@ -1,0 +1,33 @@
+//! The port's calls, as the static library has them.
+extern "C" {
+    fn estivolh_check(chart: *const u8, chart_len: usize) -> u64;
+    fn estivolh_batch(
+        book: *mut u64,
+        book_len: usize,
+        chart: *const u8,
+        chart_len: usize,
+        entries: *const i64,
+        entries_len: usize,
+        answers: *mut u64,
+        answers_len: usize,
+    ) -> u64;
+}
+
+pub fn check(chart: &[u8]) -> u64 {
+    unsafe { estivolh_check(chart.as_ptr(), chart.len()) }
+}
+
+pub fn batch(book: &mut [u64; 34], chart: &[u8], entries: &[i64], answers: &mut [u64]) -> u64 {
+    unsafe {
+        estivolh_batch(
+            book.as_mut_ptr(),
+            book.len(),
+            chart.as_ptr(),
+            chart.len(),
+            entries.as_ptr(),
+            entries.len(),
+            answers.as_mut_ptr(),
+            answers.len(),
+        )
+    }
+}
