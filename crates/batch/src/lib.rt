@@ -14,6 +14,7 @@ ghost use Rattle.geometry.specs.Plane.{OnGrid};
 ghost use Rattle.chart.specs.Chart.{chartOf};
 ghost use Rattle.accepted.specs.Accepted.{Accepted};
 ghost use Rattle.values.specs.Value.{locatedValue};
+ghost use Rattle.values.specs.Room.{RoomFor};
 ghost use Rattle.charge.specs.Charging.{ChargeMax};
 ghost use Rattle.book.specs.Books.{ValidBook, totalWear, countOf};
 ghost use Rattle.entries.specs.Entry.{EntryWidth};
@@ -47,19 +48,33 @@ fn located_bend(
     section: usize,
     method: u64,
     q: Place,
+    list: &mut [usize],
+    xs: &mut [f64],
+    ys: &mut [f64],
 ) -> Ruling
     requires { ⌜ Accepted (chartOf (now vertices) (now edges) (now faces)) ⌝ ∗ ⌜ OnGrid q ⌝ }
+    requires { ⌜ RoomFor (now list) (now xs) (now ys) ⌝ }
     ensures { λ r. ⌜ r ≡ bendRuling section (locatedValue method (chartOf (now (vertices .entry)) (now (edges .entry)) (now (faces .entry))) q) ⌝ }
 {
-    match values::located_value(vertices, edges, faces, method, q) {
+    match values::located_value(vertices, edges, faces, method, q, list, xs, ys) {
         InterpolatedValue::Value(v) => charged_bend(section, v),
         InterpolatedValue::Refused(k) => Ruling::Refused(k),
     }
 }
 
 // 12 to 16, from section count, chart and entry alone.
-fn ruling(vertices: &[i64], edges: &[usize], faces: &[usize], sections: u64, e: Entry) -> Ruling
+fn ruling(
+    vertices: &[i64],
+    edges: &[usize],
+    faces: &[usize],
+    sections: u64,
+    e: Entry,
+    list: &mut [usize],
+    xs: &mut [f64],
+    ys: &mut [f64],
+) -> Ruling
     requires { ⌜ Accepted (chartOf (now vertices) (now edges) (now faces)) ⌝ }
+    requires { ⌜ RoomFor (now list) (now xs) (now ys) ⌝ }
     ensures { λ r. ⌜ r ≡ entryRuling (onTables (chartOf (now (vertices .entry)) (now (edges .entry)) (now (faces .entry)))) sections [] e ⌝ }
 {
     if entries::is_unknown(sections, e) {
@@ -74,7 +89,7 @@ fn ruling(vertices: &[i64], edges: &[usize], faces: &[usize], sections: u64, e: 
         return Ruling::Splice(section);
     }
     let method = values::method_number(e.method);
-    located_bend(vertices, edges, faces, section, method, q)
+    located_bend(vertices, edges, faces, section, method, q, list, xs, ys)
 }
 
 // 17 of a bend, by the book.
@@ -114,11 +129,21 @@ fn changed(book: Book, ruling: Ruling) -> Book
 }
 
 // One entry.
-fn work_entry(vertices: &[i64], edges: &[usize], faces: &[usize], book: Book, e: Entry) -> Step
+fn work_entry(
+    vertices: &[i64],
+    edges: &[usize],
+    faces: &[usize],
+    book: Book,
+    e: Entry,
+    list: &mut [usize],
+    xs: &mut [f64],
+    ys: &mut [f64],
+) -> Step
     requires { ⌜ Accepted (chartOf (now vertices) (now edges) (now faces)) ⌝ ∗ ⌜ ValidBook book ⌝ }
+    requires { ⌜ RoomFor (now list) (now xs) (now ys) ⌝ }
     ensures { λ r. ⌜ r ≡ stepOf (onTables (chartOf (now (vertices .entry)) (now (edges .entry)) (now (faces .entry)))) [] book e ⌝ }
 {
-    let first = ruling(vertices, edges, faces, book.sections, e);
+    let first = ruling(vertices, edges, faces, book.sections, e, list, xs, ys);
     let last = verdict(book, first);
     let answer = entries::answer_of(last);
     Step {
@@ -127,7 +152,7 @@ fn work_entry(vertices: &[i64], edges: &[usize], faces: &[usize], book: Book, e:
     }
 }
 
-// Every entry in order; the answers into the first elements of the lent slice.
+// Every entry in order; the answers into the first elements of the lent slice. The room for neighbours is made once.
 pub fn work(
     vertices: &[i64],
     edges: &[usize],
@@ -139,12 +164,15 @@ pub fn work(
     requires { ⌜ Accepted (chartOf (now vertices) (now edges) (now faces)) ⌝ ∗ ⌜ ValidBook book ⌝ ∗ ⌜ length (now entries) / EntryWidth ≤ length (now answers) ⌝ }
     ensures { λ r. ⌜ worked r (now (answers .exit)) ≡ workedOf (onTables (chartOf (now (vertices .entry)) (now (edges .entry)) (now (faces .entry)))) [] book (now (entries .entry)) (now (answers .entry)) ⌝ }
 {
+    let mut list = values::list_room();
+    let mut xs = values::float_room();
+    let mut ys = values::float_room();
     let n = entries.len() / ENTRY_WIDTH;
     let mut b = book;
     let mut i = 0;
     while i < n {
         let e = entries::entry_at(entries, i * ENTRY_WIDTH);
-        let s = work_entry(vertices, edges, faces, b, e);
+        let s = work_entry(vertices, edges, faces, b, e, &mut list, &mut xs, &mut ys);
         answers[i] = s.answer;
         b = s.book;
         i += 1;

@@ -165,7 +165,19 @@ pub fn value_in(
     if refusal != 0 {
         return InterpolatedValue::Refused(refusal);
     }
+    let mut list = values::list_room();
+    let mut xs = values::float_room();
+    let mut ys = values::float_room();
     let a = 4 * v;
     let b = 4 * e;
-    values::value_on(&vertices[..a], &edges[..b], &faces[..f], method, q)
+    values::value_on(
+        &vertices[..a],
+        &edges[..b],
+        &faces[..f],
+        method,
+        q,
+        &mut list,
+        &mut xs,
+        &mut ys,
+    )
 }

@@ -25,7 +25,7 @@ pub fn value_sum(
     vertices: &[i64],
     edges: &[usize],
     faces: &[usize],
-    owners: &[u64],
+    owners: &[usize],
     weights: &[f64],
 ) -> f64
     requires { ⌜ InRange (chartOf (now vertices) (now edges) (now faces)) ⌝ ∗ ⌜ Valued (chartOf (now vertices) (now edges) (now faces)) ⌝ }
@@ -35,7 +35,7 @@ pub fn value_sum(
     let mut total = 0.0;
     let mut i = 0;
     while i < owners.len() {
-        total = total + points::value(vertices, owners[i] as usize) * weights[i];
+        total = total + points::value(vertices, owners[i]) * weights[i];
         i += 1;
     }
     total
@@ -103,7 +103,7 @@ pub fn value_blend(
     edges: &[usize],
     faces: &[usize],
     q: Place,
-    owners: &[u64],
+    owners: &[usize],
     weights: &[f64],
 ) -> f64
     requires { ⌜ InRange (chartOf (now vertices) (now edges) (now faces)) ⌝ ∗ ⌜ Valued (chartOf (now vertices) (now edges) (now faces)) ⌝ ∗ ⌜ OnGrid q ⌝ }
@@ -113,7 +113,7 @@ pub fn value_blend(
     let mut sums = Blend::new();
     let mut i = 0;
     while i < owners.len() {
-        let v = owners[i] as usize;
+        let v = owners[i];
         let h = points::value(vertices, v);
         let r2 = diff(vertices, edges, faces, q, v).length2();
         if r2 == 0.0 {

@@ -246,6 +246,18 @@ pub fn natural_shares(
     turn_all(vertices, edges, faces, p, list, xs, ys)
 }
 
+// The first n listed half-edges' starts, each in its half-edge's place.
+pub fn to_origins(edges: &[usize], list: &mut [usize], n: usize)
+    requires { ⌜ (n ≤ 756) × (n ≤ length (now list)) ⌝ ∗ ⌜ ((k : ℕ) → k < n → getD (now list) k 0 < rows (now edges)) ⌝ }
+    ensures { λ _. ⌜ take n (now (list .exit)) ≡ map (originOf (now (edges .entry))) (take n (now (list .entry))) ⌝ }
+{
+    let mut i = 0;
+    while i < n {
+        list[i] = chart::origin_of(edges, list[i]);
+        i += 1;
+    }
+}
+
 // Room for a float for each half-edge of the largest chart.
 fn room() -> [f64; 756]
     ensures { λ r. ⌜ length r ≡ 756 ⌝ }

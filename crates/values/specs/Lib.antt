@@ -1,2 +1,3 @@
 pub mod Located
 pub mod Value
+pub mod Room

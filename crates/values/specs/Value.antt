@@ -1,14 +1,14 @@
 -- 01, "Gradient and value": the value of a load on a chart, behind the refusals of the query, the location and the turns.
-use mathlib.Core.Path.{_≡_, refl, ap, _∙_}
-use mathlib.Core.Bool.{Bool, true, false, cond}
-use mathlib.Core.List.{List, [], _∷_, _++_, map}
+use mathlib.Core.Path.{_≡_, refl, sym, ap, _∙_}
+use mathlib.Core.Bool.{Bool, true, false, cond, not, false≢true}
+use mathlib.Core.List.{List, [], _∷_, map}
 use Prim.Native.Nat.{ℕ, zero, suc, _≤_, _<_}
 use native.Mathlib.Nat.{not-suc-le-zero, le-of-suc-le-suc}
 use native.Mathlib.Omega.{arith}
 use lib.Dec.{eqb}
 use lib.IntN.{ℤ, pos}
 use lib.Ieee.{Float}
-use lib.ListN.{length, take, drop, getD, length-map}
+use lib.ListN.{length, take, getD}
 use Rattle.whole.specs.Test.{eqZ}
 use Rattle.geometry.specs.declared.Place.{Place}
 use Rattle.geometry.specs.Plane.{offGrid}
@@ -21,8 +21,8 @@ use Rattle.neighbors.specs.Neighbors.{neighborsOf}
 use Rattle.weights.specs.declared.BarycentricWeights.{BarycentricWeights}
 use Rattle.weights.specs.declared.BarycentricWeights.the-variants as W
 use Rattle.weights.specs.Barycentric.{weighTwo, weighThree}
-use Rattle.natural.specs.Natural.{Shares, shares, broken, sharesOf, settled, Outcome, outcome, naturalWeightsOf}
-use Rattle.natural.specs.Facts.{verticesIn, share-count}
+use Rattle.natural.specs.Natural.{Shares, shares, broken, sharesOf, told}
+use Rattle.natural.specs.Facts.{verticesIn}
 use Rattle.interpolate.specs.Values.{Owners, valueSum, valueBlend}
 use Rattle.values.specs.Located.{placeRefusal, barycentricAt}
 use Rattle.values.specs.declared.InterpolatedValue.{InterpolatedValue}
@@ -148,41 +148,21 @@ listed-owners c r [] b = in-none c
 listed-owners c r (h ∷ list) b =
     in-more c _ (map (c .origin) list) (r .origins h (b 0 (omega arith))) (listed-owners c r list (λ k l. b (suc k) (omega arith)))
 
--- ---- laws: what `natural_weights` left in its slices
-take-front : {A : Type 0} (new old : List A) (n : ℕ) → length new ≡ n → take n (new ++ old) ≡ new
-take-front [] old n e = let z : n ≡ 0 = omega arith in rw z
-take-front (x ∷ new) old zero e = let o : ⊥ = omega arith in absurd o
-take-front (x ∷ new) old (suc n) e = ap (λ (l : List _). x ∷ l) (take-front new old n (omega arith))
+-- ---- laws: what `natural_shares` says of a list
+module _ (m : ℕ) (c : Chart) (q : Place) (list list' : List ℕ) (same : list' ≡ list) (r : Bool) (xs : List Float) (e : told r (take (length list') xs) ≡ sharesOf c q list') where
+  told-list : told r (take (length list') xs) ≡ sharesOf c q list
+  told-list = e ∙ ap (sharesOf c q) same
 
-module _ (m : ℕ) (c : Chart) (q : Place) (list list' : List ℕ) (same : list' ≡ list) (r n : ℕ) (os os' : List ℕ) (ws ws' : List Float) (e : outcome r os' ws' ≡ naturalWeightsOf c q list' os ws) where
-  told-list : outcome r os' ws' ≡ settled (map (c .origin) list) (sharesOf c q list) os ws
-  told-list = e ∙ ap (λ (l : List ℕ). naturalWeightsOf c q l os ws) same
-
-  pub left-refused : (r ≡ 0 → ⊥) → naturalValue m c q list ≡ Refused r
-  unfolding settled
-  left-refused z = pick (sharesOf c q list) told-list
+  pub shares-broken : not r ≡ true → naturalValue m c q list ≡ Refused 15
+  shares-broken f = pick r f told-list
     where
-      pick : (t : Shares) → outcome r os' ws' ≡ settled (map (c .origin) list) t os ws → fromShares m c q (map (c .origin) list) t ≡ Refused r
-      pick broken d = let k : r ≡ 15 = ap (λ (o : Outcome). o .refusal) d in rw k
-      pick (shares us) d = absurd (z (ap (λ (o : Outcome). o .refusal) d))
+      pick : (b : Bool) → not b ≡ true → told b (take (length list') xs) ≡ sharesOf c q list → naturalValue m c q list ≡ Refused 15
+      pick true g d = absurd (false≢true g)
+      pick false g d = rw (← d)
 
-  pub left-owners : r ≡ 0 → length list ≡ n → take n os' ≡ map (c .origin) list
-  unfolding settled
-  left-owners z l = pick (sharesOf c q list) told-list
+  pub shares-whole : (n : ℕ) (os : List ℕ) → not r ≡ false → length list' ≡ n → os ≡ map (c .origin) list' → naturalValue m c q list ≡ Value (byMethod m c q os (take n xs))
+  shares-whole n os f l o = rw (← l, o ∙ ap (map (c .origin)) same) (pick r f told-list)
     where
-      pick : (t : Shares) → outcome r os' ws' ≡ settled (map (c .origin) list) t os ws → take n os' ≡ map (c .origin) list
-      pick broken d = let k : r ≡ 15 = ap (λ (o : Outcome). o .refusal) d in let f : ⊥ = omega arith in absurd f
-      pick (shares us) d =
-          let k : os' ≡ map (c .origin) list ++ drop (length (map (c .origin) list)) os = ap (λ (o : Outcome). o .owners) d in
-          rw k (take-front (map (c .origin) list) _ n (length-map list (c .origin) ∙ l))
-
-  pub left-value : r ≡ 0 → length list ≡ n → naturalValue m c q list ≡ Value (byMethod m c q (take n os') (take n ws'))
-  unfolding settled
-  left-value z l = rw (left-owners z l) (pick (sharesOf c q list) told-list (share-count c q list))
-    where
-      pick : (t : Shares) → outcome r os' ws' ≡ settled (map (c .origin) list) t os ws → ((us : List Float) → t ≡ shares us → length us ≡ length list)
-          → fromShares m c q (map (c .origin) list) t ≡ Value (byMethod m c q (map (c .origin) list) (take n ws'))
-      pick broken d g = let k : r ≡ 15 = ap (λ (o : Outcome). o .refusal) d in let f : ⊥ = omega arith in absurd f
-      pick (shares us) d g =
-          let k : ws' ≡ us ++ drop (length us) ws = ap (λ (o : Outcome). o .weights) d in
-          rw (k, take-front us (drop (length us) ws) n (g us refl ∙ l))
+      pick : (b : Bool) → not b ≡ false → told b (take (length list') xs) ≡ sharesOf c q list → naturalValue m c q list ≡ Value (byMethod m c q (map (c .origin) list) (take (length list') xs))
+      pick true g d = rw (← d)
+      pick false g d = absurd (false≢true (sym g))

@@ -15,6 +15,7 @@ ghost use Rattle.gradient.specs.Gradient.{Valued};
 ghost use Rattle.natural.specs.Facts.{verticesIn};
 ghost use Rattle.interpolate.specs.Values.{Owners};
 ghost use Rattle.values.specs.Located.{placeRefusal, barycentricAt};
+ghost use Rattle.values.specs.Room.{RoomFor};
 ghost use Rattle.values.specs.Value.{methodOf, byMethod, barycentricValue, naturalValue, valueAt, locatedValue, valueOn};
 
 // On checked tables: the weights at a location that was found there.
@@ -113,7 +114,7 @@ fn value_by(
     faces: &[usize],
     method: u64,
     q: Place,
-    owners: &[u64],
+    owners: &[usize],
     weights: &[f64],
 ) -> f64
     requires { ⌜ InRange (chartOf (now vertices) (now edges) (now faces)) ⌝ ∗ ⌜ Valued (chartOf (now vertices) (now edges) (now faces)) ⌝ ∗ ⌜ OnGrid q ⌝ }
@@ -126,21 +127,14 @@ fn value_by(
     interpolate::value_blend(vertices, edges, faces, q, owners, weights)
 }
 
-// Room for the vertices of the longest list.
-fn owner_room() -> [u64; 756]
-    ensures { λ r. ⌜ length r ≡ 756 ⌝ }
-{
-    [0u64; 756]
-}
-
-// Room for their weights.
-fn weight_room() -> [f64; 756]
+// Room for a float for each half-edge of the largest chart.
+pub fn float_room() -> [f64; 756]
     ensures { λ r. ⌜ length r ≡ 756 ⌝ }
 {
     [0.0; 756]
 }
 
-// Methods 2 and 3 at a location that was found.
+// Methods 2 and 3 at a location that was found. The caller's room is for the list and its weights: a batch makes it once.
 fn natural_value(
     vertices: &[i64],
     edges: &[usize],
@@ -148,36 +142,21 @@ fn natural_value(
     method: u64,
     q: Place,
     place: Location,
+    list: &mut [usize],
+    xs: &mut [f64],
+    ys: &mut [f64],
 ) -> InterpolatedValue
     requires { ⌜ Accepted (chartOf (now vertices) (now edges) (now faces)) ⌝ ∗ ⌜ OnGrid q ⌝ ∗ ⌜ Holds (chartOf (now vertices) (now edges) (now faces)) q place ⌝ }
+    requires { ⌜ RoomFor (now list) (now xs) (now ys) ⌝ }
     ensures { λ r. ⌜ r ≡ naturalValue method (chartOf (now (vertices .entry)) (now (edges .entry)) (now (faces .entry))) q (neighborsOf (chartOf (now (vertices .entry)) (now (edges .entry)) (now (faces .entry))) q place .edges) ⌝ }
 {
-    let mut list = list_room();
-    let found = neighbors::get_natural_neighbor_edges(vertices, edges, faces, q, place, &mut list);
+    let found = neighbors::get_natural_neighbor_edges(vertices, edges, faces, q, place, list);
     let n = found.count;
-    let mut owners = owner_room();
-    let mut weights = weight_room();
-    let refusal = natural::natural_weights(
-        vertices,
-        edges,
-        faces,
-        q,
-        &list[..n],
-        &mut owners,
-        &mut weights,
-    );
-    if refusal != 0 {
-        return InterpolatedValue::Refused(refusal);
+    if !natural::natural_shares(vertices, edges, faces, q, &list[..n], xs, ys) {
+        return InterpolatedValue::Refused(15);
     }
-    let value = value_by(
-        vertices,
-        edges,
-        faces,
-        method,
-        q,
-        &owners[..n],
-        &weights[..n],
-    );
+    natural::to_origins(edges, list, n);
+    let value = value_by(vertices, edges, faces, method, q, &list[..n], &xs[..n]);
     InterpolatedValue::Value(value)
 }
 
@@ -189,15 +168,19 @@ fn value_at(
     method: u64,
     q: Place,
     place: Location,
+    list: &mut [usize],
+    xs: &mut [f64],
+    ys: &mut [f64],
 ) -> InterpolatedValue
     requires { ⌜ Accepted (chartOf (now vertices) (now edges) (now faces)) ⌝ ∗ ⌜ OnGrid q ⌝ ∗ ⌜ place ≡ locationOf (chartOf (now vertices) (now edges) (now faces)) q ⌝ }
+    requires { ⌜ RoomFor (now list) (now xs) (now ys) ⌝ }
     ensures { λ r. ⌜ r ≡ valueAt method (chartOf (now (vertices .entry)) (now (edges .entry)) (now (faces .entry))) q place ⌝ }
 {
     if method == 1 {
         let w = weights_at(vertices, edges, faces, q, place);
         return weighed_value(vertices, edges, faces, w);
     }
-    natural_value(vertices, edges, faces, method, q, place)
+    natural_value(vertices, edges, faces, method, q, place, list, xs, ys)
 }
 
 // At a load on the grid, by a known method: 14, 15, then the value.
@@ -207,8 +190,12 @@ pub fn located_value(
     faces: &[usize],
     method: u64,
     q: Place,
+    list: &mut [usize],
+    xs: &mut [f64],
+    ys: &mut [f64],
 ) -> InterpolatedValue
     requires { ⌜ Accepted (chartOf (now vertices) (now edges) (now faces)) ⌝ ∗ ⌜ OnGrid q ⌝ }
+    requires { ⌜ RoomFor (now list) (now xs) (now ys) ⌝ }
     ensures { λ r. ⌜ r ≡ locatedValue method (chartOf (now (vertices .entry)) (now (edges .entry)) (now (faces .entry))) q ⌝ }
 {
     let place = locate::locate(vertices, edges, faces, q);
@@ -216,7 +203,7 @@ pub fn located_value(
     if refusal != 0 {
         return InterpolatedValue::Refused(refusal);
     }
-    value_at(vertices, edges, faces, method, q, place)
+    value_at(vertices, edges, faces, method, q, place, list, xs, ys)
 }
 
 // On checked tables: 12, 13, 14, 15, then the value.
@@ -226,8 +213,12 @@ pub fn value_on(
     faces: &[usize],
     method: u64,
     q: Place,
+    list: &mut [usize],
+    xs: &mut [f64],
+    ys: &mut [f64],
 ) -> InterpolatedValue
     requires { ⌜ Accepted (chartOf (now vertices) (now edges) (now faces)) ⌝ }
+    requires { ⌜ RoomFor (now list) (now xs) (now ys) ⌝ }
     ensures { λ r. ⌜ r ≡ valueOn method (chartOf (now (vertices .entry)) (now (edges .entry)) (now (faces .entry))) q ⌝ }
 {
     if method == 0 {
@@ -236,5 +227,5 @@ pub fn value_on(
     if geometry::off_grid(q) {
         return InterpolatedValue::Refused(13);
     }
-    located_value(vertices, edges, faces, method, q)
+    located_value(vertices, edges, faces, method, q, list, xs, ys)
 }

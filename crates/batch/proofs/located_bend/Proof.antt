@@ -17,15 +17,31 @@ charged-bend-requires c κs = search needs
 enum-known-k : tie.Need-enum-known-k
 enum-known-k c = search needs
 
+same-length : tie.Need-same-length
+same-length c = search needs
+
+same-length-2 : tie.Need-same-length-2
+same-length-2 c = search needs
+
+same-length-3 : tie.Need-same-length-3
+same-length-3 c = search needs
+
 returns : tie.Need-returns
 returns c =
-    let s = c .before .before .before .before in
-    c .charged-bend .ensures ∙ sym (ap (bendRuling (s .before .before .before .args .section)) (sym (s .located-value .ensures) ∙ c .before .before .v .given .1))
+    c .charged-bend .ensures ∙ sym (ap (bendRuling (c .before .before .before .before .before .before .before .before .before .before .before .before .before .before .before .before .before .before .before .args .section)) (sym (c .before .before .before .before .before .before .before .before .before .before .located-value .ensures) ∙ c .before .before .v .given .1))
+
+same-length-4 : tie.Need-same-length-4
+same-length-4 c = search needs
+
+same-length-5 : tie.Need-same-length-5
+same-length-5 c = search needs
+
+same-length-6 : tie.Need-same-length-6
+same-length-6 c = search needs
 
 returns-2 : tie.Need-returns-2
 returns-2 c =
-    let s = c .before .before .before in
-    sym (ap (bendRuling (s .before .before .before .args .section)) (sym (s .located-value .ensures) ∙ c .before .k .given .1))
+    sym (ap (bendRuling (c .before .before .before .before .before .before .before .before .before .before .before .before .before .before .before .before .before .before .args .section)) (sym (c .before .before .before .before .before .before .before .before .before .located-value .ensures) ∙ c .before .k .given .1))
 
 pub located-bend-spec : {M : Type 1} → statement M
 located-bend-spec =
@@ -35,5 +51,11 @@ located-bend-spec =
     enum-known-v
     charged-bend-requires
     enum-known-k
+    same-length
+    same-length-2
+    same-length-3
     returns
+    same-length-4
+    same-length-5
+    same-length-6
     returns-2)

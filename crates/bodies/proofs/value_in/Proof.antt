@@ -1,9 +1,11 @@
 -- `bodies::value_in` meets its contract: a body that is not refused has an accepted chart. Assumes nothing.
 use mathlib.Core.Path.{sym, ap, _∙_}
+use native.Mathlib.Omega.{arith}
 use lib.Seq.{length-take-le}
 use Rattle.checks.specs.Checks.{Loaded}
 use Rattle.reading.specs.Laws.{told-zero, told-other}
 use Rattle.accepted.specs.Bytes.{load-accepted}
+use Rattle.values.specs.Room.{RoomFor}
 use Rattle.query.specs.Value.{valueIn}
 use borrow.Author.Needs.{needs}
 use Rattle.bodies.proofs.value_in.Statement.{statement}
@@ -36,6 +38,15 @@ returns c =
     let l = c .before .before .before .before .load in
     sym (ap (λ (x : Loaded). valueIn x (a .method) (a .q)) (l .ensures ∙ told-other (l .result) _ _ _ (c .if1 .taken)))
 
+list-room-requires : tie.Need-list-room-requires
+list-room-requires c κs = search needs
+
+float-room-requires : tie.Need-float-room-requires
+float-room-requires c κs = search needs
+
+float-room-requires-2 : tie.Need-float-room-requires-2
+float-room-requires-2 c κs = search needs
+
 mul-a : tie.Need-mul-a
 mul-a c = search needs
 
@@ -60,17 +71,28 @@ array-share-prefix-faces c = search needs
 slice-aggregate-value-on-3 : tie.Need-slice-aggregate-value-on-3
 slice-aggregate-value-on-3 c = sym (length-take-le _ _ (search needs))
 
+slice-aggregate-value-on-4 : tie.Need-slice-aggregate-value-on-4
+slice-aggregate-value-on-4 c = search needs
+
+slice-aggregate-value-on-5 : tie.Need-slice-aggregate-value-on-5
+slice-aggregate-value-on-5 c = search needs
+
+slice-aggregate-value-on-6 : tie.Need-slice-aggregate-value-on-6
+slice-aggregate-value-on-6 c = search needs
+
 value-on-requires : tie.Need-value-on-requires
 value-on-requires c κs =
-    let s = c .before .before .before .before .before .before .before .before .before .before .before .before .before .before .before in
-    let l = c .before .before .before .before .before .before .before .load in
-    load-accepted (s .args .v) (s .args .e) (s .args .f) (s .args .chart .now) _ _ _ (s .pre) (l .ensures ∙ told-zero (l .result) _ _ _ (c .before .before .before .if1 .left))
+    let s = c .before .before .before .before .before .before .before .before .before .before .before .before .before .before .before .before .before .before .before .before .before in
+    let l = c .before .before .before .before .before .before .before .before .before .before .before .before .before .load in (
+      load-accepted (s .args .v) (s .args .e) (s .args .f) (s .args .chart .now) _ _ _ (s .pre) (l .ensures ∙ told-zero (l .result) _ _ _ (c .before .before .before .before .before .before .before .before .before .if1 .left)),
+      record { list-room = omega (arith, c .before .before .before .before .before .before .before .before .list-room .ensures); xs-room = omega (arith, c .before .before .before .before .before .before .before .float-room .ensures); ys-room = omega (arith, c .before .before .before .before .before .before .float-room2 .ensures) },
+    )
 
 returns-2 : tie.Need-returns-2
 returns-2 c =
-    let a = c .before .before .before .before .before .before .before .before .before .before .before .before .before .before .before .before .args in
-    let l = c .before .before .before .before .before .before .before .before .load in
-    c .value-on .ensures ∙ sym (ap (λ (x : Loaded). valueIn x (a .method) (a .q)) (l .ensures ∙ told-zero (l .result) _ _ _ (c .before .before .before .before .if1 .left)))
+    let a = c .before .before .before .before .before .before .before .before .before .before .before .before .before .before .before .before .before .before .before .before .before .before .before .before .before .args in
+    let l = c .before .before .before .before .before .before .before .before .before .before .before .before .before .before .before .before .before .load in
+    c .before .before .before .value-on .ensures ∙ sym (ap (λ (x : Loaded). valueIn x (a .method) (a .q)) (l .ensures ∙ told-zero (l .result) _ _ _ (c .before .before .before .before .before .before .before .before .before .before .before .before .before .if1 .left)))
 
 pub value-in-spec : {M : Type 1} → statement M
 value-in-spec =
@@ -84,6 +106,9 @@ value-in-spec =
     slice-aggregate-load-3
     load-requires
     returns
+    list-room-requires
+    float-room-requires
+    float-room-requires-2
     mul-a
     mul-b
     array-share-prefix-vertices
@@ -92,5 +117,8 @@ value-in-spec =
     slice-aggregate-value-on-2
     array-share-prefix-faces
     slice-aggregate-value-on-3
+    slice-aggregate-value-on-4
+    slice-aggregate-value-on-5
+    slice-aggregate-value-on-6
     value-on-requires
     returns-2)

@@ -7,7 +7,7 @@ use Rattle.values.proofs.located_value.Statement.{statement}
 use Rattle.values.proofs.located_value.Tie as tie
 
 locate-requires : tie.Need-locate-requires
-locate-requires c κs = let s = c .before .before in (s .pre .0 .range, s .pre .1)
+locate-requires c κs = search needs
 
 place-refusal-requires : tie.Need-place-refusal-requires
 place-refusal-requires c κs = search needs
@@ -15,21 +15,30 @@ place-refusal-requires c κs = search needs
 returns : tie.Need-returns
 unfolding locatedValue
 returns c =
-    let a = c .before .before .before .before .before .args in
+    let a = c .before .before .before .before .before .before .before .before .args in
     let l = c .before .before .locate in
     let n = c .before .place-refusal in
     rw (← l .ensures, ← n .ensures) (sym (value-turned (n .result) (a .method) (chartOf (a .vertices .now) (a .edges .now) (a .faces .now)) (a .q) (l .result) (c .if1 .taken)))
 
 value-at-requires : tie.Need-value-at-requires
-value-at-requires c κs = let s = c .before .before .before .before .before in (s .pre .0, (s .pre .1, c .before .before .locate .ensures))
+value-at-requires c κs = search needs
+
+same-length : tie.Need-same-length
+same-length c = search needs
+
+same-length-2 : tie.Need-same-length-2
+same-length-2 c = search needs
+
+same-length-3 : tie.Need-same-length-3
+same-length-3 c = search needs
 
 returns-2 : tie.Need-returns-2
 unfolding locatedValue
 returns-2 c =
-    let a = c .before .before .before .before .before .before .args in
-    let l = c .before .before .before .locate in
-    let n = c .before .before .place-refusal in
-    rw (← l .ensures, ← n .ensures) (c .value-at .ensures ∙ sym (value-found (n .result) (a .method) (chartOf (a .vertices .now) (a .edges .now) (a .faces .now)) (a .q) (l .result) (c .before .if1 .left)))
+    let a = c .before .before .before .before .before .before .before .before .before .before .before .before .before .before .before .before .before .before .args in
+    let l = c .before .before .before .before .before .before .before .before .before .before .before .before .locate in
+    let n = c .before .before .before .before .before .before .before .before .before .before .before .place-refusal in
+    rw (← l .ensures, ← n .ensures) (c .before .before .before .before .before .before .value-at .ensures ∙ sym (value-found (n .result) (a .method) (chartOf (a .vertices .now) (a .edges .now) (a .faces .now)) (a .q) (l .result) (c .before .before .before .before .before .before .before .before .before .before .if1 .left)))
 
 pub located-value-spec : {M : Type 1} → statement M
 located-value-spec =
@@ -39,4 +48,7 @@ located-value-spec =
     place-refusal-requires
     returns
     value-at-requires
+    same-length
+    same-length-2
+    same-length-3
     returns-2)

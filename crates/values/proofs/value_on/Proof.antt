@@ -19,12 +19,21 @@ unfolding valueOn
 returns-2 c = rw (ne-eqb _ _ (c .before .before .if1 .left), sym (c .before .off-grid .ensures) ∙ c .if2 .taken)
 
 located-value-requires : tie.Need-located-value-requires
-located-value-requires c κs = let s = c .before .before .before .before .before in (s .pre, on-grid (s .args .q) (sym (c .before .off-grid .ensures) ∙ c .if2 .left))
+located-value-requires c κs = let s = c .before .before .before .before .before .before .before .before .before .before .before in (s .pre .0, (on-grid (s .args .q) (sym (c .before .before .before .before .off-grid .ensures) ∙ c .before .before .before .if2 .left), s .pre .1))
+
+same-length : tie.Need-same-length
+same-length c = search needs
+
+same-length-2 : tie.Need-same-length-2
+same-length-2 c = search needs
+
+same-length-3 : tie.Need-same-length-3
+same-length-3 c = search needs
 
 returns-3 : tie.Need-returns-3
 unfolding valueOn
 returns-3 c =
-    rw (ne-eqb _ _ (c .before .before .before .if1 .left), sym (c .before .before .off-grid .ensures) ∙ c .before .if2 .left) (c .located-value .ensures)
+    rw (ne-eqb _ _ (c .before .before .before .before .before .before .before .before .before .before .before .before .if1 .left), sym (c .before .before .before .before .before .before .before .before .before .before .before .off-grid .ensures) ∙ c .before .before .before .before .before .before .before .before .before .before .if2 .left) (c .before .before .before .before .before .before .located-value .ensures)
 
 pub value-on-spec : {M : Type 1} → statement M
 value-on-spec =
@@ -34,4 +43,7 @@ value-on-spec =
     off-grid-requires
     returns-2
     located-value-requires
+    same-length
+    same-length-2
+    same-length-3
     returns-3)
