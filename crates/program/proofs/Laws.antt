@@ -22,7 +22,7 @@ use Rattle.log.specs.Log.Log.{entries, refused}
 use Rattle.report.specs.Lines.{refusalLine, programSections}
 use Rattle.estivolh.specs.Account.{queries}
 use Rattle.report.specs.Laid.{laid}
-use Rattle.program.specs.Program.{programBook, afterChart, ranOf, printedOf, Printed, WholeEntries}
+use Rattle.program.specs.Program.{programBook, chartFirst, afterChart, entriesPrinted, ranOf, printedOf, Printed, WholeEntries}
 
 -- ---- one answer for each entry
 
@@ -34,22 +34,38 @@ from-length : (es : List ℤ) (at n : ℕ) → length (entriesFrom es at n) ≡ 
 from-length es at zero = refl
 from-length es at (suc n) = ap suc (from-length es (at + EntryWidth) n)
 
--- ---- no refusal of a call meets the batch
+-- ---- only the chart's refusals meet the batch
 
 fresh-good : badBook programBook ≡ false
 fresh-good = valid-book programBook (fresh-valid programSections refl)
 
-not-refused : (chart : List ℕ) (es : List ℤ) (room : ℕ) → chartRefusalOf chart ≡ 0 → WholeEntries es → entriesMax ≤ room
-    → batchRefusal programBook chart (length es) room ≡ 0
-not-refused chart es room h w l =
+by-chart : (chart : List ℕ) (es : List ℤ) (room : ℕ) → WholeEntries es → entriesMax ≤ room
+    → batchRefusal programBook chart (length es) room ≡ chartRefusalOf chart
+by-chart chart es room w l =
     let few : length es / EntryWidth ≤ room = omega arith in
-    rw (fresh-good, eq-eqb (length es % EntryWidth) 0 (w .whole), le-ltb room (length es / EntryWidth) few) h
+    rw (fresh-good, eq-eqb (length es % EntryWidth) 0 (w .whole), le-ltb room (length es / EntryWidth) few) refl
+
+told-refusal : (k : ℕ) (b : Book) (chart : List ℕ) (es : List ℤ) (lent : List ℕ) → byRefusal queries k b chart es lent .refusal ≡ k
+told-refusal zero b chart es lent = refl
+told-refusal (suc k) b chart es lent = refl
+
+-- What the batch leaves.
+module _ (chart : List ℕ) (es : List ℤ) (lent left : List ℕ) (r : Returned) (w : WholeEntries es) (l : entriesMax ≤ length lent)
+    (e : outcome r left ≡ batchOf queries programBook chart es lent) where
+  settled : outcome r left ≡ byRefusal queries (chartRefusalOf chart) programBook chart es lent
+  settled = e ∙ ap (λ (k : ℕ). byRefusal queries k programBook chart es lent) (by-chart chart es (length lent) w l)
+
+  pub refusal-left : r .refusal ≡ chartRefusalOf chart
+  refusal-left = ap (λ (o : Outcome). o .refusal) settled ∙ told-refusal (chartRefusalOf chart) programBook chart es lent
 
 -- What a batch that is not refused leaves.
-module _ (chart : List ℕ) (es : List ℤ) (lent left : List ℕ) (r : Returned) (h : chartRefusalOf chart ≡ 0) (w : WholeEntries es) (l : entriesMax ≤ length lent)
+module _ (chart : List ℕ) (es : List ℤ) (lent left : List ℕ) (r : Returned) (h : r .refusal ≡ 0) (w : WholeEntries es) (l : entriesMax ≤ length lent)
     (e : outcome r left ≡ batchOf queries programBook chart es lent) where
+  pub accepted : chartRefusalOf chart ≡ 0
+  accepted = sym (refusal-left chart es lent left r w l e) ∙ h
+
   done : outcome r left ≡ byRefusal queries 0 programBook chart es lent
-  done = e ∙ ap (λ (k : ℕ). byRefusal queries k programBook chart es lent) (not-refused chart es (length lent) h w l)
+  done = settled chart es lent left r w l e ∙ ap (λ (k : ℕ). byRefusal queries k programBook chart es lent) accepted
 
   pub book-left : r .book ≡ bookAfter queries chart programBook (entriesOf es)
   book-left = ap (λ (o : Outcome). o .book) done
@@ -63,19 +79,24 @@ module _ (chart : List ℕ) (es : List ℤ) (lent left : List ℕ) (r : Returned
 
 -- ---- what is printed, in the order of the refusals
 
-pub printed-chart : (chart : List ℕ) (size : ℕ) (log : List ℕ) (k : ℕ) → chartRefusalOf chart ≡ k → (k ≡ 0 → ⊥) → printedOf chart size log ≡ refusalLine k
-unfolding printedOf
-printed-chart chart size log zero e h = absurd (h refl)
-printed-chart chart size log (suc k) e h = ap (λ (r : ℕ). afterChart r chart (logOf size log)) e
+pub chart-refused : (chart : List ℕ) (es : List ℤ) (k : ℕ) → chartRefusalOf chart ≡ k → (k ≡ 0 → ⊥) → entriesPrinted chart es ≡ refusalLine k
+chart-refused chart es zero e h = absurd (h refl)
+chart-refused chart es (suc k) e h = ap (λ (r : ℕ). afterChart r chart (entries es)) e
 
-pub printed-log : (chart : List ℕ) (size : ℕ) (log : List ℕ) (k : ℕ) → chartRefusalOf chart ≡ 0 → logOf size log ≡ refused k → printedOf chart size log ≡ refusalLine k
-unfolding printedOf
-printed-log chart size log k e f = ap (λ (r : ℕ). afterChart r chart (logOf size log)) e ∙ ap (afterChart 0 chart) f
+pub chart-accepted : (chart : List ℕ) (es : List ℤ) → chartRefusalOf chart ≡ 0 → entriesPrinted chart es ≡ ranOf chart es
+chart-accepted chart es e = ap (λ (r : ℕ). afterChart r chart (entries es)) e
 
-pub printed-entries : (chart : List ℕ) (size : ℕ) (log : List ℕ) (es : List ℤ) → chartRefusalOf chart ≡ 0 → logOf size log ≡ entries es
-    → printedOf chart size log ≡ ranOf chart es
+log-refused : (n : ℕ) (chart : List ℕ) (k : ℕ) → afterChart n chart (refused k) ≡ refusalLine (chartFirst n k)
+log-refused zero chart k = refl
+log-refused (suc n) chart k = refl
+
+pub printed-log : (chart : List ℕ) (size : ℕ) (log : List ℕ) (k : ℕ) → logOf size log ≡ refused k → printedOf chart size log ≡ refusalLine (chartFirst (chartRefusalOf chart) k)
 unfolding printedOf
-printed-entries chart size log es e f = ap (λ (r : ℕ). afterChart r chart (logOf size log)) e ∙ ap (afterChart 0 chart) f
+printed-log chart size log k e = ap (afterChart (chartRefusalOf chart) chart) e ∙ log-refused (chartRefusalOf chart) chart k
+
+pub printed-entries : (chart : List ℕ) (size : ℕ) (log : List ℕ) (es : List ℤ) → logOf size log ≡ entries es → printedOf chart size log ≡ entriesPrinted chart es
+unfolding printedOf
+printed-entries chart size log es e = ap (afterChart (chartRefusalOf chart) chart) e
 
 -- ---- what was put is what is printed
 

@@ -30,6 +30,15 @@ afterChart zero chart (entries es) = ranOf chart es
 afterChart zero chart (refused k) = refusalLine k
 afterChart (suc k) chart log = refusalLine (suc k)
 
+-- what is printed for a chart and a log's entries
+abbrev pub entriesPrinted : List ℕ → List ℤ → List ℕ
+entriesPrinted chart es = afterChart (chartRefusalOf chart) chart (entries es)
+
+-- which refusal is printed where the log is refused
+abbrev pub chartFirst : ℕ → ℕ → ℕ
+chartFirst zero log = log
+chartFirst (suc k) log = suc k
+
 -- 01 "Program": all that is printed for a chart and a log of so many bytes, of which the first that an accepted log can have are enough
 unfoldable pub printedOf : List ℕ → ℕ → List ℕ → List ℕ
 printedOf chart size log = afterChart (chartRefusalOf chart) chart (logOf size log)
