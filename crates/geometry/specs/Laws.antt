@@ -68,6 +68,11 @@ pub side-turn : (a b c : Place) → side a b c ≡ side b c a
 unfolding side crossOf agree
 side-turn a b c = solve! (four a b c c) (sideE A B C) (sideE B C A) tt
 
+-- of the vector v from a, the side of q is v × q less v × a
+pub side-line : (a b q : Place) → side a b q ≡ crossOf (vectorOf a b) q -ℤ crossOf (vectorOf a b) a
+unfolding side crossOf agree
+side-line a b q = solve! (four a b q q) (sideE A B C) (crossE (vectorE A B) C ⊖ crossE (vectorE A B) A) tt
+
 -- ---- circle
 -- 01's form: the determinant with rows (ux, uy, ux² + uy²), along its first row
 unfoldable pub determinant : Place → Place → Place → ℤ

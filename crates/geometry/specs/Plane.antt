@@ -4,7 +4,7 @@ use mathlib.Core.Bool.{Bool, false, _&&_, _||_}
 use Prim.Native.Nat.{ℕ, _+_, _*_, _-_}
 use lib.IntN.{ℤ, pos, negℤ, _+ℤ_, _-ℤ_, _*ℤ_}
 use lib.Signed.{ltZ}
-use Rattle.whole.specs.Bound.{Within, outside, outside-within, sub-in, add-in, mul-in}
+use Rattle.whole.specs.Bound.{Within, outside, outside-within, sub-in, add-in, mul-in, widen}
 use Rattle.whole.specs.Test.{eqZ}
 use Rattle.whole.specs.Bools.{or-false}
 use Rattle.geometry.specs.declared.Place.{Place}
@@ -74,6 +74,10 @@ pub record Near (u : Place) : Type 0 where
 -- the vector between two places of the grid is near
 pub vector-near : {p q : Place} → OnGrid p → OnGrid q → Near (vectorOf p q)
 vector-near p q = record { x-in = sub-in (q .x-in) (p .x-in); y-in = sub-in (q .y-in) (p .y-in) }
+
+-- a place of the grid, taken as the vector from its middle, is near
+pub grid-near : {p : Place} → OnGrid p → Near p
+grid-near p = record { x-in = widen (p .x-in) tt; y-in = widen (p .y-in) tt }
 
 -- the bound of a cross product
 pub cross-in : {u v : Place} → Near u → Near v → Within Area (crossOf u v)

@@ -17,7 +17,7 @@ pub struct Place {
 }
 
 // The vector from p to q.
-fn vector(p: Place, q: Place) -> Place
+pub fn vector(p: Place, q: Place) -> Place
     requires { ⌜ OnGrid p ⌝ ∗ ⌜ OnGrid q ⌝ }
     ensures { λ r. ⌜ r ≡ vectorOf p q ⌝ }
 {
@@ -28,7 +28,7 @@ fn vector(p: Place, q: Place) -> Place
 }
 
 // The cross product u × v.
-fn cross(u: Place, v: Place) -> i64
+pub fn cross(u: Place, v: Place) -> i64
     requires { ⌜ Near u ⌝ ∗ ⌜ Near v ⌝ }
     ensures { λ r. ⌜ r ≡ crossOf u v ⌝ }
 {

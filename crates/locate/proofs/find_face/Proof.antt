@@ -9,10 +9,10 @@ use Rattle.locate.proofs.find_face.Statement.{statement}
 use Rattle.locate.proofs.find_face.Tie as tie
 
 abbrev Inv-loop : tie.InvT-loop
-Inv-loop vertices edges faces q n f₀ f = first (inFace (chartOf vertices edges faces) q) n ≡ from (inFace (chartOf vertices edges faces) q) f (n - f)
+Inv-loop vertices edges faces q left n f₀ f = first (inFace (chartOf vertices edges faces) q) n ≡ from (inFace (chartOf vertices edges faces) q) f (n - f)
 
 abbrev μ-loop : tie.MeasureT-loop
-μ-loop vertices edges faces q n f₀ f = n - f
+μ-loop vertices edges faces q left n f₀ f = n - f
 
 loop-holds : tie.Need-loop-holds Inv-loop μ-loop
 loop-holds c = first-from _ _

@@ -9,10 +9,10 @@ use Rattle.locate.proofs.find_outer.Statement.{statement}
 use Rattle.locate.proofs.find_outer.Tie as tie
 
 abbrev Inv-loop : tie.InvT-loop
-Inv-loop vertices edges faces q n h₀ h = first (leftOfOuter (chartOf vertices edges faces) q) n ≡ from (leftOfOuter (chartOf vertices edges faces) q) h (n - h)
+Inv-loop vertices edges faces q left n h₀ h = first (leftOfOuter (chartOf vertices edges faces) q) n ≡ from (leftOfOuter (chartOf vertices edges faces) q) h (n - h)
 
 abbrev μ-loop : tie.MeasureT-loop
-μ-loop vertices edges faces q n h₀ h = n - h
+μ-loop vertices edges faces q left n h₀ h = n - h
 
 loop-holds : tie.Need-loop-holds Inv-loop μ-loop
 loop-holds c = first-from _ _

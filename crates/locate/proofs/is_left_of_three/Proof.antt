@@ -17,8 +17,8 @@ next-of-requires c κs = search needs
 
 is-left-of-requires-2 : tie.Need-is-left-of-requires-2
 is-left-of-requires-2 c κs =
-    let s = c .before .before .before .before .before in
-    (s .pre .0, (s .pre .1 .0, omega (arith, s .pre .0 .nexts (s .args .h) (s .pre .1 .1))))
+    let s = c .before .before .before .before .before .before in
+    (s .pre .1 .0, omega (arith, s .pre .0 .nexts (s .args .h) (s .pre .1 .1)))
 
 returns-2 : tie.Need-returns-2
 returns-2 c =
@@ -33,8 +33,8 @@ prev-of-requires c κs = search needs
 
 is-left-of-requires-3 : tie.Need-is-left-of-requires-3
 is-left-of-requires-3 c κs =
-    let s = c .before .before .before .before .before .before .before .before in
-    (s .pre .0, (s .pre .1 .0, omega (arith, s .pre .0 .prevs (s .args .h) (s .pre .1 .1))))
+    let s = c .before .before .before .before .before .before .before .before .before in
+    (s .pre .1 .0, omega (arith, s .pre .0 .prevs (s .args .h) (s .pre .1 .1)))
 
 returns-3 : tie.Need-returns-3
 returns-3 c =
