@@ -4,3 +4,4 @@ pub mod Sums
 pub mod Round
 pub mod Line
 pub mod Upward
+pub mod Estimated

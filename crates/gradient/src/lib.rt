@@ -1,10 +1,12 @@
 // The gradient at a vertex (01, "Gradient and value"; `estimate_gradient`): normals of the triangles about it, summed, and one division each.
 ghost use mathlib.Core.Path.{_≡_};
-ghost use Prim.Native.Nat.{_<_};
+ghost use Prim.Native.Nat.{_*_, _≤_, _<_};
+ghost use lib.ListN.{length};
 ghost use Rattle.chart.specs.Tables.{rows};
 ghost use Rattle.chart.specs.Chart.{chartOf, InRange};
 ghost use Rattle.gradient.specs.Turn.{ccw};
 ghost use Rattle.gradient.specs.Gradient.{Valued, spotOf, endSpot, normalOf, addNormal, addPair, finalNormal, gradientFrom, gradientOf};
+ghost use Rattle.gradient.specs.Estimated.{Estimated};
 
 // A place with a vertex's value as its height, or a normal.
 pub struct Vector3 {
@@ -137,4 +139,43 @@ pub fn estimate_gradient(vertices: &[i64], edges: &[usize], faces: &[usize], v: 
     ensures { λ r. ⌜ r ≡ gradientOf (chartOf (now (vertices .entry)) (now (edges .entry)) (now (faces .entry))) v ⌝ }
 {
     gradient_from(final_normal(vertices, edges, faces, v))
+}
+
+// Room for the gradients of the largest chart's 128 vertices.
+pub fn room() -> [f64; 256]
+    ensures { λ r. ⌜ length r ≡ 256 ⌝ }
+{
+    [0.0; 256]
+}
+
+// The gradients of all vertices, into the first elements of a lent slice: for many loads on one chart.
+pub fn estimate_gradients(vertices: &[i64], edges: &[usize], faces: &[usize], gradients: &mut [f64])
+    requires { ⌜ InRange (chartOf (now vertices) (now edges) (now faces)) ⌝ ∗ ⌜ Valued (chartOf (now vertices) (now edges) (now faces)) ⌝ ∗ ⌜ 2 * rows (now vertices) ≤ length (now gradients) ⌝ }
+    ensures { λ r. ⌜ Estimated (chartOf (now (vertices .entry)) (now (edges .entry)) (now (faces .entry))) (now (gradients .exit)) (rows (now (vertices .entry))) ⌝ }
+{
+    let n = vertices.len() / 4;
+    let mut v = 0;
+    while v < n {
+        let g = estimate_gradient(vertices, edges, faces, v);
+        gradients[2 * v] = g.x;
+        gradients[2 * v + 1] = g.y;
+        v += 1;
+    }
+}
+
+// The gradient at vertex v, as it was estimated.
+pub fn estimated(
+    vertices: &[i64],
+    edges: &[usize],
+    faces: &[usize],
+    gradients: &[f64],
+    v: usize,
+) -> Gradient
+    requires { ⌜ Estimated (chartOf (now vertices) (now edges) (now faces)) (now gradients) (rows (now vertices)) ⌝ ∗ ⌜ v < rows (now vertices) ⌝ }
+    ensures { λ r. ⌜ r ≡ gradientOf (chartOf (now (vertices .entry)) (now (edges .entry)) (now (faces .entry))) v ⌝ }
+{
+    Gradient {
+        x: gradients[2 * v],
+        y: gradients[2 * v + 1],
+    }
 }

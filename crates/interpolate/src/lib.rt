@@ -9,6 +9,7 @@ ghost use Rattle.chart.specs.Limits.{MostHalfEdges};
 ghost use Rattle.chart.specs.Tables.{rows};
 ghost use Rattle.chart.specs.Chart.{chartOf, InRange};
 ghost use Rattle.gradient.specs.Gradient.{Valued};
+ghost use Rattle.gradient.specs.Estimated.{Estimated};
 ghost use Rattle.interpolate.specs.Values.{Owners, valueSum, diffOf, zetaOf, blendOn, blended, noBlend, valueBlend};
 
 // The sums of `interpolate_gradient`.
@@ -50,14 +51,21 @@ fn diff(vertices: &[i64], edges: &[usize], faces: &[usize], q: Place, v: usize) 
 }
 
 // The height of the plane through vertex v with its gradient, at the load.
-fn zeta(vertices: &[i64], edges: &[usize], faces: &[usize], q: Place, v: usize) -> f64
-    requires { ⌜ InRange (chartOf (now vertices) (now edges) (now faces)) ⌝ ∗ ⌜ Valued (chartOf (now vertices) (now edges) (now faces)) ⌝ }
+fn zeta(
+    vertices: &[i64],
+    edges: &[usize],
+    faces: &[usize],
+    gradients: &[f64],
+    q: Place,
+    v: usize,
+) -> f64
+    requires { ⌜ InRange (chartOf (now vertices) (now edges) (now faces)) ⌝ ∗ ⌜ Valued (chartOf (now vertices) (now edges) (now faces)) ⌝ ∗ ⌜ Estimated (chartOf (now vertices) (now edges) (now faces)) (now gradients) (rows (now vertices)) ⌝ }
     requires { ⌜ OnGrid q ⌝ ∗ ⌜ v < rows (now vertices) ⌝ }
     ensures { λ r. ⌜ r ≡ zetaOf (chartOf (now (vertices .entry)) (now (edges .entry)) (now (faces .entry))) q v ⌝ }
 {
     let h = points::value(vertices, v);
     let d = diff(vertices, edges, faces, q, v);
-    let g = gradient::estimate_gradient(vertices, edges, faces, v);
+    let g = gradient::estimated(vertices, edges, faces, gradients, v);
     h + d.dot(Point2 { x: g.x, y: g.y })
 }
 
@@ -102,11 +110,12 @@ pub fn value_blend(
     vertices: &[i64],
     edges: &[usize],
     faces: &[usize],
+    gradients: &[f64],
     q: Place,
     owners: &[usize],
     weights: &[f64],
 ) -> f64
-    requires { ⌜ InRange (chartOf (now vertices) (now edges) (now faces)) ⌝ ∗ ⌜ Valued (chartOf (now vertices) (now edges) (now faces)) ⌝ ∗ ⌜ OnGrid q ⌝ }
+    requires { ⌜ InRange (chartOf (now vertices) (now edges) (now faces)) ⌝ ∗ ⌜ Valued (chartOf (now vertices) (now edges) (now faces)) ⌝ ∗ ⌜ Estimated (chartOf (now vertices) (now edges) (now faces)) (now gradients) (rows (now vertices)) ⌝ ∗ ⌜ OnGrid q ⌝ }
     requires { ⌜ Owners (chartOf (now vertices) (now edges) (now faces)) (now owners) ⌝ ∗ ⌜ length (now owners) ≡ length (now weights) ⌝ ∗ ⌜ length (now owners) ≤ MostHalfEdges ⌝ }
     ensures { λ r. ⌜ r ≡ valueBlend (chartOf (now (vertices .entry)) (now (edges .entry)) (now (faces .entry))) q (now (owners .entry)) (now (weights .entry)) ⌝ }
 {
@@ -119,7 +128,12 @@ pub fn value_blend(
         if r2 == 0.0 {
             return h;
         }
-        sums = sums.on(h, r2, zeta(vertices, edges, faces, q, v), weights[i]);
+        sums = sums.on(
+            h,
+            r2,
+            zeta(vertices, edges, faces, gradients, q, v),
+            weights[i],
+        );
         i += 1;
     }
     sums.result()

@@ -15,10 +15,10 @@ use Rattle.interpolate.proofs.value_blend.Statement.{statement}
 use Rattle.interpolate.proofs.value_blend.Tie as tie
 
 abbrev Inv-loop : tie.InvT-loop
-Inv-loop vertices edges faces q owners weights sums₀ i₀ sums i = (i ≤ length owners) × (valueBlend (chartOf vertices edges faces) q owners weights ≡ blendFrom (chartOf vertices edges faces) q sums (drop i owners) (drop i weights))
+Inv-loop vertices edges faces gradients q owners weights sums₀ i₀ sums i = (i ≤ length owners) × (valueBlend (chartOf vertices edges faces) q owners weights ≡ blendFrom (chartOf vertices edges faces) q sums (drop i owners) (drop i weights))
 
 abbrev μ-loop : tie.MeasureT-loop
-μ-loop vertices edges faces q owners weights sums₀ i₀ sums i = length owners - i
+μ-loop vertices edges faces gradients q owners weights sums₀ i₀ sums i = length owners - i
 
 new-requires : tie.Need-new-requires Inv-loop μ-loop
 new-requires c κs = search needs
@@ -34,56 +34,56 @@ shared-slice-read-v c = search needs
 
 value-requires : tie.Need-value-requires Inv-loop μ-loop
 value-requires c κs =
-    let s = c .before .before .before .before .before .before .before .before in
-    let l = s .pre .1 .1 .1 .0 (c .before .before .loop .i) (c .before .loop-test .taken) in
+    let s = c .before .before .before .before .before .before .before .before .before in
+    let l = s .pre .1 .1 .1 .1 .0 (c .before .before .loop .i) (c .before .loop-test .taken) in
     (l, s .pre .1 .0 _ l)
 
 diff-requires : tie.Need-diff-requires Inv-loop μ-loop
 diff-requires c κs =
-    let s = c .before .before .before .before .before .before .before .before .before in
-    (s .pre .0, (s .pre .1 .1 .0, s .pre .1 .1 .1 .0 (c .before .before .before .loop .i) (c .before .before .loop-test .taken)))
+    let s = c .before .before .before .before .before .before .before .before .before .before in
+    (s .pre .0, (s .pre .1 .1 .1 .0, s .pre .1 .1 .1 .1 .0 (c .before .before .before .loop .i) (c .before .before .loop-test .taken)))
 
 length2-requires : tie.Need-length2-requires Inv-loop μ-loop
 length2-requires c κs = search needs
 
 returns : tie.Need-returns Inv-loop μ-loop
 returns c =
-    let s = c .before .before .before .before .before .before .before .before .before .before .before .before in
+    let s = c .before .before .before .before .before .before .before .before .before .before .before .before .before in
     let a = s .args in
     let l = c .before .before .before .before .before .before .loop in
     let t = c .before .before .before .before .before .loop-test .taken in
-    let k = subst (λ (n : ℕ). l .i < n) (s .pre .1 .1 .1 .1 .0) t in
+    let k = subst (λ (n : ℕ). l .i < n) (s .pre .1 .1 .1 .1 .1 .0) t in
     let r : c .before .length2 .result ≡ r2Of (chartOf (a .vertices .now) (a .edges .now) (a .faces .now)) (a .q) (getD (a .owners .now) (l .i) 0) = c .before .length2 .ensures ∙ ap pointLength2 (c .before .before .diff .ensures) in
     let e : eq (r2Of (chartOf (a .vertices .now) (a .edges .now) (a .faces .now)) (a .q) (getD (a .owners .now) (l .i) 0)) f0 ≡ true = rw (← r) (c .if1 .taken) in
     sym (l .inv .1 ∙ blend-at (chartOf (a .vertices .now) (a .edges .now) (a .faces .now)) (a .owners .now) (a .weights .now) (l .i) (a .q) (l .sums) t k e ∙ sym (c .before .before .before .value .ensures))
 
 zeta-requires : tie.Need-zeta-requires Inv-loop μ-loop
 zeta-requires c κs =
-    let s = c .before .before .before .before .before .before .before .before .before .before .before .before in
-    (s .pre .0, (s .pre .1 .0, (s .pre .1 .1 .0, s .pre .1 .1 .1 .0 (c .before .before .before .before .before .before .loop .i) (c .before .before .before .before .before .loop-test .taken))))
+    let s = c .before .before .before .before .before .before .before .before .before .before .before .before .before in
+    (s .pre .0, (s .pre .1 .0, (s .pre .1 .1 .0, (s .pre .1 .1 .1 .0, s .pre .1 .1 .1 .1 .0 (c .before .before .before .before .before .before .loop .i) (c .before .before .before .before .before .loop-test .taken)))))
 
 mul-on : tie.Need-mul-on Inv-loop μ-loop
-mul-on c = search needs
+mul-on c = omega (arith, c .before .before .before .before .before .before .loop-test .taken, c .before .before .before .before .before .before .before .before .before .before .before .before .before .before .pre .1 .1 .1 .1 .1 .1)
 
 shared-slice-read-on : tie.Need-shared-slice-read-on Inv-loop μ-loop
-shared-slice-read-on c = omega arith
+shared-slice-read-on c = omega (arith, c .before .before .before .before .before .before .before .loop-test .taken, c .before .before .before .before .before .before .before .before .before .before .before .before .before .before .before .pre .1 .1 .1 .1 .1 .0)
 
 on-requires : tie.Need-on-requires Inv-loop μ-loop
 on-requires c κs = search needs
 
 add-i : tie.Need-add-i Inv-loop μ-loop
-add-i c = omega (arith, c .before .before .before .before .before .before .before .before .loop-test .taken, c .before .before .before .before .before .before .before .before .before .before .before .before .before .before .before .pre .1 .1 .1 .1 .1)
+add-i c = omega (arith, c .before .before .before .before .before .before .before .before .loop-test .taken, c .before .before .before .before .before .before .before .before .before .before .before .before .before .before .before .before .pre .1 .1 .1 .1 .1 .1)
 
 loop-less : tie.Need-loop-less Inv-loop μ-loop
 loop-less c = omega arith
 
 loop-again : tie.Need-loop-again Inv-loop μ-loop
 loop-again c =
-    let s = c .before .before .before .before .before .before .before .before .before .before .before .before .before .before .before in
+    let s = c .before .before .before .before .before .before .before .before .before .before .before .before .before .before .before .before in
     let a = s .args in
     let l = c .before .before .before .before .before .before .before .before .before .loop in
     let t = c .before .before .before .before .before .before .before .before .loop-test .taken in
-    let k = subst (λ (n : ℕ). l .i < n) (s .pre .1 .1 .1 .1 .0) t in
+    let k = subst (λ (n : ℕ). l .i < n) (s .pre .1 .1 .1 .1 .1 .0) t in
     let r : c .before .before .before .before .length2 .result ≡ r2Of (chartOf (a .vertices .now) (a .edges .now) (a .faces .now)) (a .q) (getD (a .owners .now) (l .i) 0) = c .before .before .before .before .length2 .ensures ∙ ap pointLength2 (c .before .before .before .before .before .diff .ensures) in
     let e : eq (r2Of (chartOf (a .vertices .now) (a .edges .now) (a .faces .now)) (a .q) (getD (a .owners .now) (l .i) 0)) f0 ≡ false = rw (← r) (c .before .before .before .if1 .left) in (
       omega arith,
@@ -97,7 +97,7 @@ result-requires c κs = search needs
 
 returns-2 : tie.Need-returns-2 Inv-loop μ-loop
 returns-2 c =
-    let a = c .before .before .before .before .before .before .before .before .args in
+    let a = c .before .before .before .before .before .before .before .before .before .args in
     let l = c .before .before .loop in
     c .result .ensures ∙ sym (l .inv .1 ∙ blend-end (chartOf (a .vertices .now) (a .edges .now) (a .faces .now)) (a .owners .now) (a .weights .now) (l .i) (a .q) (l .sums) (c .before .loop-test .left))
 
