@@ -11,7 +11,10 @@ ghost use mathlib.Core.List.{[]};
 ghost use Prim.Native.Nat.{_≤_, _<_, _/_};
 ghost use lib.ListN.{length};
 ghost use Rattle.geometry.specs.Plane.{OnGrid};
+ghost use Rattle.chart.specs.Tables.{rows};
 ghost use Rattle.chart.specs.Chart.{chartOf};
+ghost use Rattle.lines.specs.Lines.{Drawn};
+ghost use Rattle.gradient.specs.Estimated.{Estimated};
 ghost use Rattle.accepted.specs.Accepted.{Accepted};
 ghost use Rattle.values.specs.Value.{locatedValue};
 ghost use Rattle.values.specs.Room.{RoomFor};
@@ -45,6 +48,8 @@ fn located_bend(
     vertices: &[i64],
     edges: &[usize],
     faces: &[usize],
+    lines: &[i64],
+    gradients: &[f64],
     section: usize,
     method: u64,
     q: Place,
@@ -53,10 +58,21 @@ fn located_bend(
     ys: &mut [f64],
 ) -> Ruling
     requires { ⌜ Accepted (chartOf (now vertices) (now edges) (now faces)) ⌝ ∗ ⌜ OnGrid q ⌝ }
-    requires { ⌜ RoomFor (now list) (now xs) (now ys) ⌝ }
+    requires { ⌜ RoomFor (now list) (now xs) (now ys) ⌝ ∗ ⌜ Estimated (chartOf (now vertices) (now edges) (now faces)) (now gradients) (rows (now vertices)) ⌝ ∗ ⌜ Drawn (chartOf (now vertices) (now edges) (now faces)) (now lines) (rows (now edges) / 2) ⌝ }
     ensures { λ r. ⌜ r ≡ bendRuling section (locatedValue method (chartOf (now (vertices .entry)) (now (edges .entry)) (now (faces .entry))) q) ⌝ }
 {
-    match values::located_value(vertices, edges, faces, method, q, list, xs, ys) {
+    match values::located_value(
+        vertices,
+        edges,
+        faces,
+        lines,
+        gradients,
+        method,
+        q,
+        list,
+        xs,
+        ys,
+    ) {
         InterpolatedValue::Value(v) => charged_bend(section, v),
         InterpolatedValue::Refused(k) => Ruling::Refused(k),
     }
@@ -67,6 +83,8 @@ fn ruling(
     vertices: &[i64],
     edges: &[usize],
     faces: &[usize],
+    lines: &[i64],
+    gradients: &[f64],
     sections: u64,
     e: Entry,
     list: &mut [usize],
@@ -74,7 +92,7 @@ fn ruling(
     ys: &mut [f64],
 ) -> Ruling
     requires { ⌜ Accepted (chartOf (now vertices) (now edges) (now faces)) ⌝ }
-    requires { ⌜ RoomFor (now list) (now xs) (now ys) ⌝ }
+    requires { ⌜ RoomFor (now list) (now xs) (now ys) ⌝ ∗ ⌜ Estimated (chartOf (now vertices) (now edges) (now faces)) (now gradients) (rows (now vertices)) ⌝ ∗ ⌜ Drawn (chartOf (now vertices) (now edges) (now faces)) (now lines) (rows (now edges) / 2) ⌝ }
     ensures { λ r. ⌜ r ≡ entryRuling (onTables (chartOf (now (vertices .entry)) (now (edges .entry)) (now (faces .entry)))) sections [] e ⌝ }
 {
     if entries::is_unknown(sections, e) {
@@ -89,7 +107,19 @@ fn ruling(
         return Ruling::Splice(section);
     }
     let method = values::method_number(e.method);
-    located_bend(vertices, edges, faces, section, method, q, list, xs, ys)
+    located_bend(
+        vertices,
+        edges,
+        faces,
+        lines,
+        gradients,
+        section,
+        method,
+        q,
+        list,
+        xs,
+        ys,
+    )
 }
 
 // 17 of a bend, by the book.
@@ -133,6 +163,8 @@ fn work_entry(
     vertices: &[i64],
     edges: &[usize],
     faces: &[usize],
+    lines: &[i64],
+    gradients: &[f64],
     book: Book,
     e: Entry,
     list: &mut [usize],
@@ -140,10 +172,21 @@ fn work_entry(
     ys: &mut [f64],
 ) -> Step
     requires { ⌜ Accepted (chartOf (now vertices) (now edges) (now faces)) ⌝ ∗ ⌜ ValidBook book ⌝ }
-    requires { ⌜ RoomFor (now list) (now xs) (now ys) ⌝ }
+    requires { ⌜ RoomFor (now list) (now xs) (now ys) ⌝ ∗ ⌜ Estimated (chartOf (now vertices) (now edges) (now faces)) (now gradients) (rows (now vertices)) ⌝ ∗ ⌜ Drawn (chartOf (now vertices) (now edges) (now faces)) (now lines) (rows (now edges) / 2) ⌝ }
     ensures { λ r. ⌜ r ≡ stepOf (onTables (chartOf (now (vertices .entry)) (now (edges .entry)) (now (faces .entry)))) [] book e ⌝ }
 {
-    let first = ruling(vertices, edges, faces, book.sections, e, list, xs, ys);
+    let first = ruling(
+        vertices,
+        edges,
+        faces,
+        lines,
+        gradients,
+        book.sections,
+        e,
+        list,
+        xs,
+        ys,
+    );
     let last = verdict(book, first);
     let answer = entries::answer_of(last);
     Step {
@@ -153,6 +196,47 @@ fn work_entry(
 }
 
 // Every entry in order; the answers into the first elements of the lent slice. The room for neighbours is made once.
+fn work_all(
+    vertices: &[i64],
+    edges: &[usize],
+    faces: &[usize],
+    lines: &[i64],
+    gradients: &[f64],
+    book: Book,
+    entries: &[i64],
+    answers: &mut [u64],
+) -> Book
+    requires { ⌜ Accepted (chartOf (now vertices) (now edges) (now faces)) ⌝ ∗ ⌜ ValidBook book ⌝ ∗ ⌜ length (now entries) / EntryWidth ≤ length (now answers) ⌝ ∗ ⌜ Estimated (chartOf (now vertices) (now edges) (now faces)) (now gradients) (rows (now vertices)) ⌝ ∗ ⌜ Drawn (chartOf (now vertices) (now edges) (now faces)) (now lines) (rows (now edges) / 2) ⌝ }
+    ensures { λ r. ⌜ worked r (now (answers .exit)) ≡ workedOf (onTables (chartOf (now (vertices .entry)) (now (edges .entry)) (now (faces .entry)))) [] book (now (entries .entry)) (now (answers .entry)) ⌝ }
+{
+    let mut list = values::list_room();
+    let mut xs = values::float_room();
+    let mut ys = values::float_room();
+    let n = entries.len() / ENTRY_WIDTH;
+    let mut b = book;
+    let mut i = 0;
+    while i < n {
+        let e = entries::entry_at(entries, i * ENTRY_WIDTH);
+        let s = work_entry(
+            vertices,
+            edges,
+            faces,
+            lines,
+            gradients,
+            b,
+            e,
+            &mut list,
+            &mut xs,
+            &mut ys,
+        );
+        answers[i] = s.answer;
+        b = s.book;
+        i += 1;
+    }
+    b
+}
+
+// The same from the tables alone: what every entry needs of the chart is worked out once.
 pub fn work(
     vertices: &[i64],
     edges: &[usize],
@@ -164,18 +248,18 @@ pub fn work(
     requires { ⌜ Accepted (chartOf (now vertices) (now edges) (now faces)) ⌝ ∗ ⌜ ValidBook book ⌝ ∗ ⌜ length (now entries) / EntryWidth ≤ length (now answers) ⌝ }
     ensures { λ r. ⌜ worked r (now (answers .exit)) ≡ workedOf (onTables (chartOf (now (vertices .entry)) (now (edges .entry)) (now (faces .entry)))) [] book (now (entries .entry)) (now (answers .entry)) ⌝ }
 {
-    let mut list = values::list_room();
-    let mut xs = values::float_room();
-    let mut ys = values::float_room();
-    let n = entries.len() / ENTRY_WIDTH;
-    let mut b = book;
-    let mut i = 0;
-    while i < n {
-        let e = entries::entry_at(entries, i * ENTRY_WIDTH);
-        let s = work_entry(vertices, edges, faces, b, e, &mut list, &mut xs, &mut ys);
-        answers[i] = s.answer;
-        b = s.book;
-        i += 1;
-    }
-    b
+    let mut lines = lines::room();
+    lines::draw(vertices, edges, faces, &mut lines);
+    let mut gradients = gradient::room();
+    gradient::estimate_gradients(vertices, edges, faces, &mut gradients);
+    work_all(
+        vertices,
+        edges,
+        faces,
+        &lines,
+        &gradients,
+        book,
+        entries,
+        answers,
+    )
 }

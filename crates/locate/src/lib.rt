@@ -6,6 +6,7 @@ ghost use Prim.Native.Nat.{_*_, _/_, _≤_, _<_};
 ghost use lib.ListN.{length};
 ghost use Rattle.whole.specs.First.{first};
 ghost use Rattle.geometry.specs.Plane.{OnGrid, side};
+ghost use Rattle.chart.specs.Limits.{MostHalfEdges};
 ghost use Rattle.chart.specs.Tables.{rows};
 ghost use Rattle.chart.specs.Chart.{chartOf, fromOf, toOf, InRange};
 ghost use Rattle.lines.specs.Lines.{Drawn};
@@ -205,7 +206,7 @@ fn find_outer(vertices: &[i64], edges: &[usize], faces: &[usize], q: Place, left
 
 // No half-edge has q on its left yet.
 fn no_side() -> [bool; 756]
-    ensures { λ r. ⌜ length r ≡ 756 ⌝ }
+    ensures { λ r. ⌜ length r ≡ MostHalfEdges ⌝ }
 {
     [false; 756]
 }
@@ -218,7 +219,7 @@ pub fn locate_by(
     lines: &[i64],
     q: Place,
 ) -> Location
-    requires { ⌜ InRange (chartOf (now vertices) (now edges) (now faces)) ⌝ ∗ ⌜ Drawn (chartOf (now vertices) (now edges) (now faces)) (now lines) (rows (now edges) / 2) ⌝ ∗ ⌜ OnGrid q ⌝ ∗ ⌜ rows (now edges) ≤ 756 ⌝ }
+    requires { ⌜ InRange (chartOf (now vertices) (now edges) (now faces)) ⌝ ∗ ⌜ Drawn (chartOf (now vertices) (now edges) (now faces)) (now lines) (rows (now edges) / 2) ⌝ ∗ ⌜ OnGrid q ⌝ ∗ ⌜ rows (now edges) ≤ MostHalfEdges ⌝ }
     ensures { λ r. ⌜ r ≡ locationOf (chartOf (now (vertices .entry)) (now (edges .entry)) (now (faces .entry))) q ⌝ }
 {
     let v = find_vertex(vertices, edges, faces, q);
@@ -243,7 +244,7 @@ pub fn locate_by(
 
 // The same for one load.
 pub fn locate(vertices: &[i64], edges: &[usize], faces: &[usize], q: Place) -> Location
-    requires { ⌜ InRange (chartOf (now vertices) (now edges) (now faces)) ⌝ ∗ ⌜ OnGrid q ⌝ ∗ ⌜ rows (now edges) ≤ 756 ⌝ }
+    requires { ⌜ InRange (chartOf (now vertices) (now edges) (now faces)) ⌝ ∗ ⌜ OnGrid q ⌝ ∗ ⌜ rows (now edges) ≤ MostHalfEdges ⌝ }
     ensures { λ r. ⌜ r ≡ locationOf (chartOf (now (vertices .entry)) (now (edges .entry)) (now (faces .entry))) q ⌝ }
 {
     let mut lines = lines::room();

@@ -46,7 +46,7 @@ pub fn locate_on(
     faces: &[usize],
     q: Place,
 ) -> PositionInTriangulation
-    requires { ⌜ InRange (chartOf (now vertices) (now edges) (now faces)) ⌝ }
+    requires { ⌜ Accepted (chartOf (now vertices) (now edges) (now faces)) ⌝ }
     ensures { λ r. ⌜ positionSays r ≡ locateOn (chartOf (now (vertices .entry)) (now (edges .entry)) (now (faces .entry))) q ⌝ }
 {
     if geometry::off_grid(q) {
@@ -62,7 +62,7 @@ pub fn weights_on(
     faces: &[usize],
     q: Place,
 ) -> BarycentricWeights
-    requires { ⌜ InRange (chartOf (now vertices) (now edges) (now faces)) ⌝ }
+    requires { ⌜ Accepted (chartOf (now vertices) (now edges) (now faces)) ⌝ }
     ensures { λ r. ⌜ r ≡ barycentricOn (chartOf (now (vertices .entry)) (now (edges .entry)) (now (faces .entry))) q ⌝ }
 {
     if geometry::off_grid(q) {

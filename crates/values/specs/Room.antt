@@ -3,8 +3,9 @@ use mathlib.Core.List.{List}
 use Prim.Native.Nat.{ℕ, _≤_}
 use lib.Ieee.{Float}
 use lib.ListN.{length}
+use Rattle.chart.specs.Limits.{MostHalfEdges}
 
 pub record RoomFor (list : List ℕ) (xs ys : List Float) : Type 0 where
-  pub list-room : 756 ≤ length list
-  pub xs-room : 756 ≤ length xs
-  pub ys-room : 756 ≤ length ys
+  pub list-room : MostHalfEdges ≤ length list
+  pub xs-room : MostHalfEdges ≤ length xs
+  pub ys-room : MostHalfEdges ≤ length ys

@@ -3,15 +3,19 @@ use geometry::Place;
 use locate::Location;
 use weights::BarycentricWeights;
 ghost use mathlib.Core.Path.{_≡_};
-ghost use Prim.Native.Nat.{_≤_};
+ghost use Prim.Native.Nat.{_/_, _≤_};
 ghost use lib.ListN.{length};
 ghost use Rattle.geometry.specs.Plane.{OnGrid};
+ghost use Rattle.chart.specs.Limits.{MostHalfEdges};
+ghost use Rattle.chart.specs.Tables.{rows};
 ghost use Rattle.chart.specs.Chart.{chartOf, InRange};
 ghost use Rattle.accepted.specs.Accepted.{Accepted};
 ghost use Rattle.locate.specs.Location.{locationOf};
 ghost use Rattle.locate.specs.Laws.{Holds};
 ghost use Rattle.neighbors.specs.Neighbors.{neighborsOf};
+ghost use Rattle.lines.specs.Lines.{Drawn};
 ghost use Rattle.gradient.specs.Gradient.{Valued};
+ghost use Rattle.gradient.specs.Estimated.{Estimated};
 ghost use Rattle.natural.specs.Facts.{verticesIn};
 ghost use Rattle.interpolate.specs.Values.{Owners};
 ghost use Rattle.values.specs.Located.{placeRefusal, barycentricAt};
@@ -40,7 +44,7 @@ pub fn weights_at(
 
 // Room for the longest list of half-edges.
 pub fn list_room() -> [usize; 756]
-    ensures { λ r. ⌜ length r ≡ 756 ⌝ }
+    ensures { λ r. ⌜ length r ≡ MostHalfEdges ⌝ }
 {
     [0usize; 756]
 }
@@ -112,24 +116,25 @@ fn value_by(
     vertices: &[i64],
     edges: &[usize],
     faces: &[usize],
+    gradients: &[f64],
     method: u64,
     q: Place,
     owners: &[usize],
     weights: &[f64],
 ) -> f64
-    requires { ⌜ InRange (chartOf (now vertices) (now edges) (now faces)) ⌝ ∗ ⌜ Valued (chartOf (now vertices) (now edges) (now faces)) ⌝ ∗ ⌜ OnGrid q ⌝ }
-    requires { ⌜ Owners (chartOf (now vertices) (now edges) (now faces)) (now owners) ⌝ ∗ ⌜ length (now owners) ≡ length (now weights) ⌝ ∗ ⌜ length (now owners) ≤ 756 ⌝ }
+    requires { ⌜ InRange (chartOf (now vertices) (now edges) (now faces)) ⌝ ∗ ⌜ Valued (chartOf (now vertices) (now edges) (now faces)) ⌝ ∗ ⌜ Estimated (chartOf (now vertices) (now edges) (now faces)) (now gradients) (rows (now vertices)) ⌝ ∗ ⌜ OnGrid q ⌝ }
+    requires { ⌜ Owners (chartOf (now vertices) (now edges) (now faces)) (now owners) ⌝ ∗ ⌜ length (now owners) ≡ length (now weights) ⌝ ∗ ⌜ length (now owners) ≤ MostHalfEdges ⌝ }
     ensures { λ r. ⌜ r ≡ byMethod method (chartOf (now (vertices .entry)) (now (edges .entry)) (now (faces .entry))) q (now (owners .entry)) (now (weights .entry)) ⌝ }
 {
     if method == 2 {
         return interpolate::value_sum(vertices, edges, faces, owners, weights);
     }
-    interpolate::value_blend(vertices, edges, faces, q, owners, weights)
+    interpolate::value_blend(vertices, edges, faces, gradients, q, owners, weights)
 }
 
 // Room for a float for each half-edge of the largest chart.
 pub fn float_room() -> [f64; 756]
-    ensures { λ r. ⌜ length r ≡ 756 ⌝ }
+    ensures { λ r. ⌜ length r ≡ MostHalfEdges ⌝ }
 {
     [0.0; 756]
 }
@@ -139,6 +144,7 @@ fn natural_value(
     vertices: &[i64],
     edges: &[usize],
     faces: &[usize],
+    gradients: &[f64],
     method: u64,
     q: Place,
     place: Location,
@@ -147,7 +153,7 @@ fn natural_value(
     ys: &mut [f64],
 ) -> InterpolatedValue
     requires { ⌜ Accepted (chartOf (now vertices) (now edges) (now faces)) ⌝ ∗ ⌜ OnGrid q ⌝ ∗ ⌜ Holds (chartOf (now vertices) (now edges) (now faces)) q place ⌝ }
-    requires { ⌜ RoomFor (now list) (now xs) (now ys) ⌝ }
+    requires { ⌜ RoomFor (now list) (now xs) (now ys) ⌝ ∗ ⌜ Estimated (chartOf (now vertices) (now edges) (now faces)) (now gradients) (rows (now vertices)) ⌝ }
     ensures { λ r. ⌜ r ≡ naturalValue method (chartOf (now (vertices .entry)) (now (edges .entry)) (now (faces .entry))) q (neighborsOf (chartOf (now (vertices .entry)) (now (edges .entry)) (now (faces .entry))) q place .edges) ⌝ }
 {
     let found = neighbors::get_natural_neighbor_edges(vertices, edges, faces, q, place, list);
@@ -156,7 +162,16 @@ fn natural_value(
         return InterpolatedValue::Refused(15);
     }
     natural::to_origins(edges, list, n);
-    let value = value_by(vertices, edges, faces, method, q, &list[..n], &xs[..n]);
+    let value = value_by(
+        vertices,
+        edges,
+        faces,
+        gradients,
+        method,
+        q,
+        &list[..n],
+        &xs[..n],
+    );
     InterpolatedValue::Value(value)
 }
 
@@ -165,6 +180,7 @@ fn value_at(
     vertices: &[i64],
     edges: &[usize],
     faces: &[usize],
+    gradients: &[f64],
     method: u64,
     q: Place,
     place: Location,
@@ -173,21 +189,34 @@ fn value_at(
     ys: &mut [f64],
 ) -> InterpolatedValue
     requires { ⌜ Accepted (chartOf (now vertices) (now edges) (now faces)) ⌝ ∗ ⌜ OnGrid q ⌝ ∗ ⌜ place ≡ locationOf (chartOf (now vertices) (now edges) (now faces)) q ⌝ }
-    requires { ⌜ RoomFor (now list) (now xs) (now ys) ⌝ }
+    requires { ⌜ RoomFor (now list) (now xs) (now ys) ⌝ ∗ ⌜ Estimated (chartOf (now vertices) (now edges) (now faces)) (now gradients) (rows (now vertices)) ⌝ }
     ensures { λ r. ⌜ r ≡ valueAt method (chartOf (now (vertices .entry)) (now (edges .entry)) (now (faces .entry))) q place ⌝ }
 {
     if method == 1 {
         let w = weights_at(vertices, edges, faces, q, place);
         return weighed_value(vertices, edges, faces, w);
     }
-    natural_value(vertices, edges, faces, method, q, place, list, xs, ys)
+    natural_value(
+        vertices,
+        edges,
+        faces,
+        gradients,
+        method,
+        q,
+        place,
+        list,
+        xs,
+        ys,
+    )
 }
 
-// At a load on the grid, by a known method: 14, 15, then the value.
+// At a load on the grid, by a known method: 14, 15, then the value. A batch draws the lines and estimates the gradients once.
 pub fn located_value(
     vertices: &[i64],
     edges: &[usize],
     faces: &[usize],
+    lines: &[i64],
+    gradients: &[f64],
     method: u64,
     q: Place,
     list: &mut [usize],
@@ -195,15 +224,26 @@ pub fn located_value(
     ys: &mut [f64],
 ) -> InterpolatedValue
     requires { ⌜ Accepted (chartOf (now vertices) (now edges) (now faces)) ⌝ ∗ ⌜ OnGrid q ⌝ }
-    requires { ⌜ RoomFor (now list) (now xs) (now ys) ⌝ }
+    requires { ⌜ RoomFor (now list) (now xs) (now ys) ⌝ ∗ ⌜ Estimated (chartOf (now vertices) (now edges) (now faces)) (now gradients) (rows (now vertices)) ⌝ ∗ ⌜ Drawn (chartOf (now vertices) (now edges) (now faces)) (now lines) (rows (now edges) / 2) ⌝ }
     ensures { λ r. ⌜ r ≡ locatedValue method (chartOf (now (vertices .entry)) (now (edges .entry)) (now (faces .entry))) q ⌝ }
 {
-    let place = locate::locate(vertices, edges, faces, q);
+    let place = locate::locate_by(vertices, edges, faces, lines, q);
     let refusal = place_refusal(place);
     if refusal != 0 {
         return InterpolatedValue::Refused(refusal);
     }
-    value_at(vertices, edges, faces, method, q, place, list, xs, ys)
+    value_at(
+        vertices,
+        edges,
+        faces,
+        gradients,
+        method,
+        q,
+        place,
+        list,
+        xs,
+        ys,
+    )
 }
 
 // On checked tables: 12, 13, 14, 15, then the value.
@@ -227,5 +267,20 @@ pub fn value_on(
     if geometry::off_grid(q) {
         return InterpolatedValue::Refused(13);
     }
-    located_value(vertices, edges, faces, method, q, list, xs, ys)
+    let mut lines = lines::room();
+    lines::draw(vertices, edges, faces, &mut lines);
+    let mut gradients = gradient::room();
+    gradient::estimate_gradients(vertices, edges, faces, &mut gradients);
+    located_value(
+        vertices,
+        edges,
+        faces,
+        &lines,
+        &gradients,
+        method,
+        q,
+        list,
+        xs,
+        ys,
+    )
 }

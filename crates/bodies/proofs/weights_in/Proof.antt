@@ -1,4 +1,4 @@
--- `bodies::weights_in` meets its contract: a body that is not refused has tables in range. Assumes nothing.
+-- `bodies::weights_in` meets its contract: a body that is not refused is an accepted chart. Assumes nothing.
 use mathlib.Core.Path.{sym, ap, _∙_}
 use lib.Seq.{length-take-le}
 use Rattle.checks.specs.Checks.{Loaded}
@@ -64,7 +64,7 @@ weights-on-requires : tie.Need-weights-on-requires
 weights-on-requires c κs =
     let s = c .before .before .before .before .before .before .before .before .before .before .before .before .before .before .before in
     let l = c .before .before .before .before .before .before .before .load in
-    load-accepted (s .args .v) (s .args .e) (s .args .f) (s .args .chart .now) _ _ _ (s .pre) (l .ensures ∙ told-zero (l .result) _ _ _ (c .before .before .before .if1 .left)) .range
+    load-accepted (s .args .v) (s .args .e) (s .args .f) (s .args .chart .now) _ _ _ (s .pre) (l .ensures ∙ told-zero (l .result) _ _ _ (c .before .before .before .if1 .left))
 
 returns-2 : tie.Need-returns-2
 returns-2 c =

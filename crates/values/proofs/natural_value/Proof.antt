@@ -19,32 +19,32 @@ use Rattle.values.proofs.natural_value.Tie as tie
 
 get-natural-neighbor-edges-requires : tie.Need-get-natural-neighbor-edges-requires
 get-natural-neighbor-edges-requires c κs =
-    let s = c .before .before .before .before .before .before in
+    let s = c .before .before .before .before .before .before .before in
     let a = s .args in
     let k = s .pre .0 in
-    (k .range, (s .pre .1 .0, (s .pre .1 .1 .0, roomy (chartOf (a .vertices .now) (a .edges .now) (a .faces .now)) k _ (omega (arith, k .counts .e-most, s .pre .1 .1 .1 .list-room)))))
+    (k .range, (s .pre .1 .0, (s .pre .1 .1 .0, roomy (chartOf (a .vertices .now) (a .edges .now) (a .faces .now)) k _ (omega (arith, k .counts .e-most, s .pre .1 .1 .1 .0 .list-room)))))
 
 slice-reshare-prefix-natural-shares : tie.Need-slice-reshare-prefix-natural-shares
 slice-reshare-prefix-natural-shares c =
-    let s = c .before .before .before .before .before .before .before .before .before in
+    let s = c .before .before .before .before .before .before .before .before .before .before in
     let a = s .args in
     let f = c .before .before .get-natural-neighbor-edges in
     let e = answer-count (neighborsOf (chartOf (a .vertices .now) (a .edges .now) (a .faces .now)) (a .q) (a .place)) _ (f .result) _ (f .ensures) in
     let w = list-within (chartOf (a .vertices .now) (a .edges .now) (a .faces .now)) (s .pre .0) (a .q) (a .place) (s .pre .1 .1 .0) in
-    omega (arith, e, w, s .pre .0 .counts .e-most, s .pre .1 .1 .1 .list-room, f .kept .1 .1 .1 .1 .1 .0)
+    omega (arith, e, w, s .pre .0 .counts .e-most, s .pre .1 .1 .1 .0 .list-room, f .kept .1 .1 .1 .1 .1 .0)
 
 slice-aggregate-natural-shares : tie.Need-slice-aggregate-natural-shares
 slice-aggregate-natural-shares c =
-    let s = c .before .before .before .before .before .before .before .before .before .before in
+    let s = c .before .before .before .before .before .before .before .before .before .before .before in
     let a = s .args in
     let f = c .before .before .before .get-natural-neighbor-edges in
     let e = answer-count (neighborsOf (chartOf (a .vertices .now) (a .edges .now) (a .faces .now)) (a .q) (a .place)) _ (f .result) _ (f .ensures) in
     let w = list-within (chartOf (a .vertices .now) (a .edges .now) (a .faces .now)) (s .pre .0) (a .q) (a .place) (s .pre .1 .1 .0) in
-    sym (length-take-le _ _ (omega (arith, e, w, s .pre .0 .counts .e-most, s .pre .1 .1 .1 .list-room, f .kept .1 .1 .1 .1 .1 .0)))
+    sym (length-take-le _ _ (omega (arith, e, w, s .pre .0 .counts .e-most, s .pre .1 .1 .1 .0 .list-room, f .kept .1 .1 .1 .1 .1 .0)))
 
 natural-shares-requires : tie.Need-natural-shares-requires
 natural-shares-requires c κs =
-    let s = c .before .before .before .before .before .before .before .before .before .before .before .before in
+    let s = c .before .before .before .before .before .before .before .before .before .before .before .before .before in
     let a = s .args in
     let f = c .before .before .before .before .before .get-natural-neighbor-edges in
     let e = answer-count (neighborsOf (chartOf (a .vertices .now) (a .edges .now) (a .faces .now)) (a .q) (a .place)) _ (f .result) _ (f .ensures) in
@@ -55,7 +55,7 @@ natural-shares-requires c κs =
         s .pre .1 .0,
         (
           record { below = listed-below (chartOf (a .vertices .now) (a .edges .now) (a .faces .now)) (a .q) (s .pre .0 .range) (a .place) (s .pre .1 .1 .0); few = omega (arith, w, s .pre .0 .counts .e-most) },
-          (omega (arith, w, s .pre .0 .counts .e-most, s .pre .1 .1 .1 .xs-room), omega (arith, w, s .pre .0 .counts .e-most, s .pre .1 .1 .1 .ys-room)),
+          (omega (arith, w, s .pre .0 .counts .e-most, s .pre .1 .1 .1 .0 .xs-room), omega (arith, w, s .pre .0 .counts .e-most, s .pre .1 .1 .1 .0 .ys-room)),
         ),
       ),
     )
@@ -71,7 +71,7 @@ same-length-3 c = search needs
 
 returns : tie.Need-returns
 returns c =
-    let s = c .before .before .before .before .before .before .before .before .before .before .before .before .before .before .before .before .before .before in
+    let s = c .before .before .before .before .before .before .before .before .before .before .before .before .before .before .before .before .before .before .before in
     let a = s .args in
     let f = c .before .before .before .before .before .before .before .before .before .before .before .get-natural-neighbor-edges in
     let e = answer-count (neighborsOf (chartOf (a .vertices .now) (a .edges .now) (a .faces .now)) (a .q) (a .place)) _ (f .result) _ (f .ensures) in
@@ -80,7 +80,7 @@ returns c =
 
 to-origins-requires : tie.Need-to-origins-requires
 to-origins-requires c κs =
-    let s = c .before .before .before .before .before .before .before .before .before .before .before .before .before .before .before .before .before .before .before in
+    let s = c .before .before .before .before .before .before .before .before .before .before .before .before .before .before .before .before .before .before .before .before in
     let a = s .args in
     let f = c .before .before .before .before .before .before .before .before .before .before .before .before .get-natural-neighbor-edges in
     let e = answer-count (neighborsOf (chartOf (a .vertices .now) (a .edges .now) (a .faces .now)) (a .q) (a .place)) _ (f .result) _ (f .ensures) in
@@ -88,61 +88,64 @@ to-origins-requires c κs =
     let list = f .last .1 .1 .1 .1 .1 .0 in
     let below : (k : ℕ) → k < f .result .count → getD list k 0 < rows (a .edges .now)
     = λ k l. rw (← getD-take (f .result .count) list k 0 l, answer-edges (neighborsOf (chartOf (a .vertices .now) (a .edges .now) (a .faces .now)) (a .q) (a .place)) _ (f .result) _ (f .ensures)) (listed-below (chartOf (a .vertices .now) (a .edges .now) (a .faces .now)) (a .q) (s .pre .0 .range) (a .place) (s .pre .1 .1 .0) k (omega (arith, e, l))) in
-    ((omega (arith, e, w, s .pre .0 .counts .e-most), omega (arith, e, w, s .pre .0 .counts .e-most, s .pre .1 .1 .1 .list-room, f .kept .1 .1 .1 .1 .1 .0)), below)
+    ((omega (arith, e, w, s .pre .0 .counts .e-most), omega (arith, e, w, s .pre .0 .counts .e-most, s .pre .1 .1 .1 .0 .list-room, f .kept .1 .1 .1 .1 .1 .0)), below)
 
 slice-reshare-prefix-value-by : tie.Need-slice-reshare-prefix-value-by
 slice-reshare-prefix-value-by c =
-    let s = c .before .before .before .before .before .before .before .before .before .before .before .before .before .before .before .before .before .before .before .before .before .before in
+    let s = c .before .before .before .before .before .before .before .before .before .before .before .before .before .before .before .before .before .before .before .before .before .before .before in
     let a = s .args in
     let f = c .before .before .before .before .before .before .before .before .before .before .before .before .before .before .before .get-natural-neighbor-edges in
     let e = answer-count (neighborsOf (chartOf (a .vertices .now) (a .edges .now) (a .faces .now)) (a .q) (a .place)) _ (f .result) _ (f .ensures) in
     let w = list-within (chartOf (a .vertices .now) (a .edges .now) (a .faces .now)) (s .pre .0) (a .q) (a .place) (s .pre .1 .1 .0) in
-    omega (arith, e, w, s .pre .0 .counts .e-most, s .pre .1 .1 .1 .list-room, f .kept .1 .1 .1 .1 .1 .0, c .before .before .to-origins .kept .1 .0)
+    omega (arith, e, w, s .pre .0 .counts .e-most, s .pre .1 .1 .1 .0 .list-room, f .kept .1 .1 .1 .1 .1 .0, c .before .before .to-origins .kept .1 .0)
 
 slice-aggregate-value-by : tie.Need-slice-aggregate-value-by
 slice-aggregate-value-by c =
-    let s = c .before .before .before .before .before .before .before .before .before .before .before .before .before .before .before .before .before .before .before .before .before .before .before in
+    let s = c .before .before .before .before .before .before .before .before .before .before .before .before .before .before .before .before .before .before .before .before .before .before .before .before in
     let a = s .args in
     let f = c .before .before .before .before .before .before .before .before .before .before .before .before .before .before .before .before .get-natural-neighbor-edges in
     let e = answer-count (neighborsOf (chartOf (a .vertices .now) (a .edges .now) (a .faces .now)) (a .q) (a .place)) _ (f .result) _ (f .ensures) in
     let w = list-within (chartOf (a .vertices .now) (a .edges .now) (a .faces .now)) (s .pre .0) (a .q) (a .place) (s .pre .1 .1 .0) in
-    sym (length-take-le _ _ (omega (arith, e, w, s .pre .0 .counts .e-most, s .pre .1 .1 .1 .list-room, f .kept .1 .1 .1 .1 .1 .0, c .before .before .before .to-origins .kept .1 .0)))
+    sym (length-take-le _ _ (omega (arith, e, w, s .pre .0 .counts .e-most, s .pre .1 .1 .1 .0 .list-room, f .kept .1 .1 .1 .1 .1 .0, c .before .before .before .to-origins .kept .1 .0)))
 
 slice-reshare-prefix-value-by-2 : tie.Need-slice-reshare-prefix-value-by-2
 slice-reshare-prefix-value-by-2 c =
-    let s = c .before .before .before .before .before .before .before .before .before .before .before .before .before .before .before .before .before .before .before .before .before .before .before in
+    let s = c .before .before .before .before .before .before .before .before .before .before .before .before .before .before .before .before .before .before .before .before .before .before .before .before in
     let a = s .args in
     let f = c .before .before .before .before .before .before .before .before .before .before .before .before .before .before .before .before .get-natural-neighbor-edges in
     let e = answer-count (neighborsOf (chartOf (a .vertices .now) (a .edges .now) (a .faces .now)) (a .q) (a .place)) _ (f .result) _ (f .ensures) in
     let w = list-within (chartOf (a .vertices .now) (a .edges .now) (a .faces .now)) (s .pre .0) (a .q) (a .place) (s .pre .1 .1 .0) in
-    omega (arith, e, w, s .pre .0 .counts .e-most, s .pre .1 .1 .1 .xs-room, c .before .before .before .before .before .before .before .before .before .before .natural-shares .kept .1 .1 .1 .1 .1 .0)
+    omega (arith, e, w, s .pre .0 .counts .e-most, s .pre .1 .1 .1 .0 .xs-room, c .before .before .before .before .before .before .before .before .before .before .natural-shares .kept .1 .1 .1 .1 .1 .0)
 
 slice-aggregate-value-by-2 : tie.Need-slice-aggregate-value-by-2
 slice-aggregate-value-by-2 c =
-    let s = c .before .before .before .before .before .before .before .before .before .before .before .before .before .before .before .before .before .before .before .before .before .before .before .before in
+    let s = c .before .before .before .before .before .before .before .before .before .before .before .before .before .before .before .before .before .before .before .before .before .before .before .before .before in
     let a = s .args in
     let f = c .before .before .before .before .before .before .before .before .before .before .before .before .before .before .before .before .before .get-natural-neighbor-edges in
     let e = answer-count (neighborsOf (chartOf (a .vertices .now) (a .edges .now) (a .faces .now)) (a .q) (a .place)) _ (f .result) _ (f .ensures) in
     let w = list-within (chartOf (a .vertices .now) (a .edges .now) (a .faces .now)) (s .pre .0) (a .q) (a .place) (s .pre .1 .1 .0) in
-    sym (length-take-le _ _ (omega (arith, e, w, s .pre .0 .counts .e-most, s .pre .1 .1 .1 .xs-room, c .before .before .before .before .before .before .before .before .before .before .before .natural-shares .kept .1 .1 .1 .1 .1 .0)))
+    sym (length-take-le _ _ (omega (arith, e, w, s .pre .0 .counts .e-most, s .pre .1 .1 .1 .0 .xs-room, c .before .before .before .before .before .before .before .before .before .before .before .natural-shares .kept .1 .1 .1 .1 .1 .0)))
 
 value-by-requires : tie.Need-value-by-requires
 value-by-requires c κs =
-    let s = c .before .before .before .before .before .before .before .before .before .before .before .before .before .before .before .before .before .before .before .before .before .before .before .before in
+    let s = c .before .before .before .before .before .before .before .before .before .before .before .before .before .before .before .before .before .before .before .before .before .before .before .before .before in
     let a = s .args in
     let f = c .before .before .before .before .before .before .before .before .before .before .before .before .before .before .before .before .before .get-natural-neighbor-edges in
     let e = answer-count (neighborsOf (chartOf (a .vertices .now) (a .edges .now) (a .faces .now)) (a .q) (a .place)) _ (f .result) _ (f .ensures) in
     let w = list-within (chartOf (a .vertices .now) (a .edges .now) (a .faces .now)) (s .pre .0) (a .q) (a .place) (s .pre .1 .1 .0) in
-    let po = length-take-le (f .result .count) (c .before .before .before .before .to-origins .last .1 .0) (omega (arith, e, w, s .pre .0 .counts .e-most, s .pre .1 .1 .1 .list-room, f .kept .1 .1 .1 .1 .1 .0, c .before .before .before .before .to-origins .kept .1 .0)) in
-    let pw = length-take-le (f .result .count) (c .before .before .before .before .before .before .before .before .before .before .before .natural-shares .last .1 .1 .1 .1 .1 .0) (omega (arith, e, w, s .pre .0 .counts .e-most, s .pre .1 .1 .1 .xs-room, c .before .before .before .before .before .before .before .before .before .before .before .natural-shares .kept .1 .1 .1 .1 .1 .0)) in (
+    let po = length-take-le (f .result .count) (c .before .before .before .before .to-origins .last .1 .0) (omega (arith, e, w, s .pre .0 .counts .e-most, s .pre .1 .1 .1 .0 .list-room, f .kept .1 .1 .1 .1 .1 .0, c .before .before .before .before .to-origins .kept .1 .0)) in
+    let pw = length-take-le (f .result .count) (c .before .before .before .before .before .before .before .before .before .before .before .natural-shares .last .1 .1 .1 .1 .1 .0) (omega (arith, e, w, s .pre .0 .counts .e-most, s .pre .1 .1 .1 .0 .xs-room, c .before .before .before .before .before .before .before .before .before .before .before .natural-shares .kept .1 .1 .1 .1 .1 .0)) in (
       s .pre .0 .range,
       (
         s .pre .0 .values,
         (
-          s .pre .1 .0,
+          s .pre .1 .1 .1 .1,
           (
-            subst (Owners (chartOf (a .vertices .now) (a .edges .now) (a .faces .now))) (sym (c .before .before .before .before .to-origins .ensures ∙ ap (map ((chartOf (a .vertices .now) (a .edges .now) (a .faces .now)) .origin)) (answer-edges (neighborsOf (chartOf (a .vertices .now) (a .edges .now) (a .faces .now)) (a .q) (a .place)) _ (f .result) _ (f .ensures)))) (listed-owners (chartOf (a .vertices .now) (a .edges .now) (a .faces .now)) (s .pre .0 .range) ((neighborsOf (chartOf (a .vertices .now) (a .edges .now) (a .faces .now)) (a .q) (a .place)) .edges) (listed-below (chartOf (a .vertices .now) (a .edges .now) (a .faces .now)) (a .q) (s .pre .0 .range) (a .place) (s .pre .1 .1 .0))),
-            (po ∙ sym pw, omega (arith, po, e, w, s .pre .0 .counts .e-most)),
+            s .pre .1 .0,
+            (
+              subst (Owners (chartOf (a .vertices .now) (a .edges .now) (a .faces .now))) (sym (c .before .before .before .before .to-origins .ensures ∙ ap (map ((chartOf (a .vertices .now) (a .edges .now) (a .faces .now)) .origin)) (answer-edges (neighborsOf (chartOf (a .vertices .now) (a .edges .now) (a .faces .now)) (a .q) (a .place)) _ (f .result) _ (f .ensures)))) (listed-owners (chartOf (a .vertices .now) (a .edges .now) (a .faces .now)) (s .pre .0 .range) ((neighborsOf (chartOf (a .vertices .now) (a .edges .now) (a .faces .now)) (a .q) (a .place)) .edges) (listed-below (chartOf (a .vertices .now) (a .edges .now) (a .faces .now)) (a .q) (s .pre .0 .range) (a .place) (s .pre .1 .1 .0))),
+              (po ∙ sym pw, omega (arith, po, e, w, s .pre .0 .counts .e-most)),
+            ),
           ),
         ),
       ),
@@ -159,12 +162,12 @@ same-length-6 c = search needs
 
 returns-2 : tie.Need-returns-2
 returns-2 c =
-    let s = c .before .before .before .before .before .before .before .before .before .before .before .before .before .before .before .before .before .before .before .before .before .before .before .before .before in
+    let s = c .before .before .before .before .before .before .before .before .before .before .before .before .before .before .before .before .before .before .before .before .before .before .before .before .before .before in
     let a = s .args in
     let f = c .before .before .before .before .before .before .before .before .before .before .before .before .before .before .before .before .before .before .get-natural-neighbor-edges in
     let e = answer-count (neighborsOf (chartOf (a .vertices .now) (a .edges .now) (a .faces .now)) (a .q) (a .place)) _ (f .result) _ (f .ensures) in
     let w = list-within (chartOf (a .vertices .now) (a .edges .now) (a .faces .now)) (s .pre .0) (a .q) (a .place) (s .pre .1 .1 .0) in
-    let n = length-take-le (f .result .count) (f .last .1 .1 .1 .1 .1 .0) (omega (arith, e, w, s .pre .0 .counts .e-most, s .pre .1 .1 .1 .list-room, f .kept .1 .1 .1 .1 .1 .0)) in
+    let n = length-take-le (f .result .count) (f .last .1 .1 .1 .1 .1 .0) (omega (arith, e, w, s .pre .0 .counts .e-most, s .pre .1 .1 .1 .0 .list-room, f .kept .1 .1 .1 .1 .1 .0)) in
     rw (c .value-by .ensures) (sym (shares-whole (a .method) (chartOf (a .vertices .now) (a .edges .now) (a .faces .now)) (a .q) ((neighborsOf (chartOf (a .vertices .now) (a .edges .now) (a .faces .now)) (a .q) (a .place)) .edges) _ (answer-edges (neighborsOf (chartOf (a .vertices .now) (a .edges .now) (a .faces .now)) (a .q) (a .place)) _ (f .result) _ (f .ensures)) (c .before .before .before .before .before .before .before .before .before .before .before .before .natural-shares .result) _ (c .before .before .before .before .before .before .before .before .before .before .before .before .natural-shares .ensures) (f .result .count) _ (c .before .before .before .before .before .before .before .if1 .left) n (c .before .before .before .before .before .to-origins .ensures)))
 
 pub natural-value-spec : {M : Type 1} → statement M

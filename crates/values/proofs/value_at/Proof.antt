@@ -16,17 +16,17 @@ weights-at-requires c κs = search needs
 
 weighed-value-requires : tie.Need-weighed-value-requires
 weighed-value-requires c κs =
-    let s = c .before .before .before .before .before .before .before in
+    let s = c .before .before .before .before .before .before .before .before in
     let a = s .args in
     (s .pre .0 .values, subst (λ (x : BarycentricWeights). Owners (chartOf (a .vertices .now) (a .edges .now) (a .faces .now)) (verticesIn x)) (sym (c .weights-at .ensures)) (barycentric-owners (chartOf (a .vertices .now) (a .edges .now) (a .faces .now)) (a .q) (a .place) (s .pre .0 .range) (located _ _ _ (s .pre .1 .1 .0))))
 
 returns : tie.Need-returns
 returns c =
-    let a = c .before .before .before .before .before .before .before .before .args in
+    let a = c .before .before .before .before .before .before .before .before .before .args in
     rw (eq-eqb _ _ (c .before .before .if1 .taken)) (c .weighed-value .ensures ∙ ap (barycentricValue (chartOf (a .vertices .now) (a .edges .now) (a .faces .now))) (c .before .weights-at .ensures))
 
 natural-value-requires : tie.Need-natural-value-requires
-natural-value-requires c κs = let s = c .before .before .before .before .before .before .before .before .before in (s .pre .0, (s .pre .1 .0, (located _ _ _ (s .pre .1 .1 .0), s .pre .1 .1 .1)))
+natural-value-requires c κs = let s = c .before .before .before .before .before .before .before .before .before .before in (s .pre .0, (s .pre .1 .0, (located _ _ _ (s .pre .1 .1 .0), s .pre .1 .1 .1)))
 
 same-length : tie.Need-same-length
 same-length c = search needs

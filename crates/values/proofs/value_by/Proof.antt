@@ -4,13 +4,13 @@ use Rattle.values.proofs.value_by.Statement.{statement}
 use Rattle.values.proofs.value_by.Tie as tie
 
 value-sum-requires : tie.Need-value-sum-requires
-value-sum-requires c κs = let p = c .before .before .before .before .before .pre in (p .0, (p .1 .0, (p .1 .1 .1 .0, p .1 .1 .1 .1 .0)))
+value-sum-requires c κs = let p = c .before .before .before .before .before .before .pre in (p .0, (p .1 .0, (p .1 .1 .1 .1 .0, p .1 .1 .1 .1 .1 .0)))
 
 returns : tie.Need-returns
 returns c = rw (eq-eqb _ _ (c .before .if1 .taken)) (c .value-sum .ensures)
 
 value-blend-requires : tie.Need-value-blend-requires
-value-blend-requires c κs = c .before .before .before .before .before .pre
+value-blend-requires c κs = c .before .before .before .before .before .before .pre
 
 returns-2 : tie.Need-returns-2
 returns-2 c = rw (ne-eqb _ _ (c .before .if1 .left)) (c .value-blend .ensures)

@@ -1,4 +1,4 @@
--- `batch::work` meets its contract: the loop keeps `Running`. Assumes nothing.
+-- `batch::work_all` meets its contract: the loop keeps `Running`. Assumes nothing.
 use mathlib.Core.Path.{_≡_, sym, ap, subst, _∙_}
 use mathlib.Core.List.{[]}
 use Prim.Native.Nat.{_+_, _-_, _*_, _/_, _≤_}
@@ -11,14 +11,14 @@ use Rattle.batch.specs.declared.Step.{Step}
 use Rattle.batch.specs.Tables.{onTables, stepOf}
 use Rattle.batch.specs.Running.{Running, running-start, running-next, running-end}
 use borrow.Author.Needs.{needs}
-use Rattle.batch.proofs.work.Statement.{statement}
-use Rattle.batch.proofs.work.Tie as tie
+use Rattle.batch.proofs.work_all.Statement.{statement}
+use Rattle.batch.proofs.work_all.Tie as tie
 
 abbrev Inv-loop : tie.InvT-loop
-Inv-loop vertices edges faces entries answers₀ list₀ xs₀ ys₀ n b₀ i₀ answers list xs ys b i = (Running (onTables (chartOf vertices edges faces)) [] entries answers₀ n b₀ answers b i) × (length list ≡ 756) × (length xs ≡ 756) × (length ys ≡ 756) × (n ≤ 1152921504606846976)
+Inv-loop vertices edges faces lines gradients entries answers₀ list₀ xs₀ ys₀ n b₀ i₀ answers list xs ys b i = (Running (onTables (chartOf vertices edges faces)) [] entries answers₀ n b₀ answers b i) × (length list ≡ 756) × (length xs ≡ 756) × (length ys ≡ 756) × (n ≤ 1152921504606846976)
 
 abbrev μ-loop : tie.MeasureT-loop
-μ-loop vertices edges faces entries answers₀ list₀ xs₀ ys₀ n b₀ i₀ answers list xs ys b i = n - i
+μ-loop vertices edges faces lines gradients entries answers₀ list₀ xs₀ ys₀ n b₀ i₀ answers list xs ys b i = n - i
 
 list-room-requires : tie.Need-list-room-requires Inv-loop μ-loop
 list-room-requires c κs = search needs
@@ -93,8 +93,8 @@ returns c =
     let l = c .before .loop in
     running-end (onTables (chartOf (a .vertices .now) (a .edges .now) (a .faces .now))) [] (a .entries .now) (a .answers .now) (length (a .entries .now) / EntryWidth) (a .book) (l .answers) (l .b) (l .i) (l .inv .0) (c .loop-test .left) (s .pre .1 .1)
 
-pub work-spec : {M : Type 1} → statement M
-work-spec =
+pub work-all-spec : {M : Type 1} → statement M
+work-all-spec =
     tie.close
     (tie.spec
     Inv-loop
