@@ -24,17 +24,17 @@ two : SFits w64 (pos 2)
 two = sfits-lit tt
 
 -- 12 has let the entry pass
-passed : (c : tie.Else1) → unknown (c .before .before .before .before .before .before .before .args .sections) (c .before .before .before .before .before .before .before .args .e) ≡ false
+passed : (c : tie.Else1) → unknown (c .before .before .before .before .before .before .before .before .args .sections) (c .before .before .before .before .before .before .before .before .args .e) ≡ false
 passed c = sym (c .before .is-unknown .ensures) ∙ c .if1 .left
 
 -- the test of the place, over the entry
-place-test : (c : tie.After-off-grid) → offGrid (placeIn (c .before .before .before .before .before .before .before .before .before .args .e)) ≡ c .off-grid .result
+place-test : (c : tie.After-off-grid) → offGrid (placeIn (c .before .before .before .before .before .before .before .before .before .before .args .e)) ≡ c .off-grid .result
 place-test c = ap offGrid (sym (c .before .place-in .ensures)) ∙ sym (c .off-grid .ensures)
 
 -- the section, over the entry
-section-is : (c : tie.After-to-unsigned) → c .to-unsigned .result ≡ unsigned (c .before .before .before .before .before .before .before .before .before .before .before .before .args .e .section)
+section-is : (c : tie.After-to-unsigned) → c .to-unsigned .result ≡ unsigned (c .before .before .before .before .before .before .before .before .before .before .before .before .before .args .e .section)
 section-is c =
-    let e = c .before .before .before .before .before .before .before .before .before .before .before .before .args .e in
+    let e = c .before .before .before .before .before .before .before .before .before .before .before .before .before .args .e in
     let f : SFits w64 (e .section) = record { sfits = c .before .struct-told .given .1 .0 .1 } in
     simp (toZ-ofZ f) at (c .to-unsigned .ensures)
 
@@ -43,7 +43,7 @@ is-unknown-requires c κs = search needs
 
 returns : tie.Need-returns
 returns c =
-    let a = c .before .before .before .before .before .before .before .args in
+    let a = c .before .before .before .before .before .before .before .before .args in
     sym (ruling-unknown (chartOf (a .vertices .now) (a .edges .now) (a .faces .now)) (a .sections) (a .e) (sym (c .before .is-unknown .ensures) ∙ c .if1 .taken))
 
 place-in-requires : tie.Need-place-in-requires
@@ -54,7 +54,7 @@ off-grid-requires c κs = search needs
 
 returns-2 : tie.Need-returns-2
 returns-2 c =
-    let a = c .before .before .before .before .before .before .before .before .before .before .args in
+    let a = c .before .before .before .before .before .before .before .before .before .before .before .args in
     sym (ruling-off-grid (chartOf (a .vertices .now) (a .edges .now) (a .faces .now)) (a .sections) (a .e) (passed (c .before .before .before)) (place-test (c .before) ∙ c .if2 .taken))
 
 to-unsigned-requires : tie.Need-to-unsigned-requires
@@ -64,7 +64,7 @@ returns-3 : tie.Need-returns-3
 returns-3 c =
     let s = c .before .before .before in
     let t = s .before .before in
-    let a = t .before .before .before .before .before .before .before .before .before .before .args in
+    let a = t .before .before .before .before .before .before .before .before .before .before .before .args in
     let k : SFits w64 (a .e .kind) = record { sfits = c .before .struct-told2 .given .0 .1 } in
     ap Splice (section-is s)
     ∙ sym (ruling-splice (chartOf (a .vertices .now) (a .edges .now) (a .faces .now)) (a .sections) (a .e) (passed (t .before .before .before)) (place-test (t .before) ∙ t .if2 .left) (bits-true k two (c .if3 .taken)))
@@ -75,7 +75,7 @@ method-number-requires c κs = search needs
 located-bend-requires : tie.Need-located-bend-requires
 located-bend-requires c κs =
     let t = c .before .before .before .before .before .before .before .before .before .before in
-    let s = t .before .before .before .before .before .before .before .before .before .before in
+    let s = t .before .before .before .before .before .before .before .before .before .before .before in
     (s .pre .0, (on-grid _ (sym (t .before .off-grid .ensures) ∙ t .if2 .left), s .pre .1))
 
 same-length : tie.Need-same-length
@@ -93,7 +93,7 @@ returns-4 c =
     let u = c .before .before .before .before .before .before .before .before .before .before .before .before in
     let s = u .before .before .before in
     let t = s .before .before in
-    let a = t .before .before .before .before .before .before .before .before .before .before .args in
+    let a = t .before .before .before .before .before .before .before .before .before .before .before .args in
     let p = t .before .before .place-in in
     let d = (chartOf (a .vertices .now) (a .edges .now) (a .faces .now)) in
     let k : SFits w64 (a .e .kind) = record { sfits = u .before .struct-told2 .given .0 .1 } in

@@ -17,9 +17,9 @@ use Rattle.batch.proofs.work_entry.Statement.{statement}
 use Rattle.batch.proofs.work_entry.Tie as tie
 
 -- the verdict is the definition's
-verdict-is : (c : tie.After-verdict) → c .verdict .result ≡ bookVerdict (onTables (chartOf (c .before .before .before .before .before .before .before .before .before .before .before .before .before .before .before .before .args .vertices .now) (c .before .before .before .before .before .before .before .before .before .before .before .before .before .before .before .before .args .edges .now) (c .before .before .before .before .before .before .before .before .before .before .before .before .before .before .before .before .args .faces .now))) [] (c .before .before .before .before .before .before .before .before .before .before .before .before .before .before .before .before .args .book) (c .before .before .before .before .before .before .before .before .before .before .before .before .before .before .before .before .args .e)
+verdict-is : (c : tie.After-verdict) → c .verdict .result ≡ bookVerdict (onTables (chartOf (c .before .before .before .before .before .before .before .before .before .before .before .before .before .before .before .before .before .args .vertices .now) (c .before .before .before .before .before .before .before .before .before .before .before .before .before .before .before .before .before .args .edges .now) (c .before .before .before .before .before .before .before .before .before .before .before .before .before .before .before .before .before .args .faces .now))) [] (c .before .before .before .before .before .before .before .before .before .before .before .before .before .before .before .before .before .args .book) (c .before .before .before .before .before .before .before .before .before .before .before .before .before .before .before .before .before .args .e)
 verdict-is c =
-    let b = c .before .before .before .before .before .before .before .before .before .before .before .before .before .before .before .before .args .book in
+    let b = c .before .before .before .before .before .before .before .before .before .before .before .before .before .before .before .before .before .args .book in
     c .verdict .ensures ∙ ap (with17 (totalWear b) (countOf b)) (c .before .before .before .before .before .before .before .ruling .ensures)
 
 ruling-requires : tie.Need-ruling-requires
@@ -27,19 +27,19 @@ ruling-requires c κs = search needs
 
 verdict-requires : tie.Need-verdict-requires
 verdict-requires c κs =
-    let s = c .before .before .before .before .before .before .before .before .before .before .before .before .before .before .before in
+    let s = c .before .before .before .before .before .before .before .before .before .before .before .before .before .before .before .before in
     let a = s .args in
     let d = (chartOf (a .vertices .now) (a .edges .now) (a .faces .now)) in
     (s .pre .1 .0, subst (Known (a .book .sections)) (sym (c .before .before .before .before .before .before .ruling .ensures)) (known (onTables d) (a .book .sections) [] (a .e)))
 
 answer-of-requires : tie.Need-answer-of-requires
 answer-of-requires c κs =
-    let a = c .before .before .before .before .before .before .before .before .before .before .before .before .before .before .before .before .args in
+    let a = c .before .before .before .before .before .before .before .before .before .before .before .before .before .before .before .before .before .args in
     subst UpTo17 (sym (verdict-is c)) (verdict-up-to-17 (chartOf (a .vertices .now) (a .edges .now) (a .faces .now)) (a .book) (a .e))
 
 changed-requires : tie.Need-changed-requires
 changed-requires c κs =
-    let s = c .before .before .before .before .before .before .before .before .before .before .before .before .before .before .before .before .before in
+    let s = c .before .before .before .before .before .before .before .before .before .before .before .before .before .before .before .before .before .before in
     let a = s .args in
     let d = (chartOf (a .vertices .now) (a .edges .now) (a .faces .now)) in
     subst (Changeable (a .book)) (sym (verdict-is (c .before))) (verdict-fits (onTables d) [] (a .book) (s .pre .1 .0) (a .e))
@@ -56,7 +56,7 @@ same-length-3 c = search needs
 returns : tie.Need-returns
 returns c =
     let v = c .before .before in
-    let b = v .before .before .before .before .before .before .before .before .before .before .before .before .before .before .before .before .args .book in
+    let b = v .before .before .before .before .before .before .before .before .before .before .before .before .before .before .before .before .before .args .book in
     let w : Ruling → Step = λ r. record { answer = answerOf r; book = bookChange b r } in
     let g : ℕ → Book → Step = λ n x. record { answer = n; book = x } in
     ap (λ (n : ℕ). g n (c .changed .result)) (c .before .answer-of .ensures)
