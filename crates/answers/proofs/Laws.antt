@@ -8,9 +8,8 @@ use native.Mathlib.Nat.{pow-le-pow-right, zero-add}
 use native.Mathlib.Numerals.{add-one, sub-one}
 use lib.ListN.{length, take, drop, getD, drop-of-length-le}
 use lib.Seq.{drop-cons}
-use lib.Dec.{T, eqb, lit<}
-use lib.Ieee.{Float, nan, inf, fin, eq, isNan}
-use lib.Signed.{ltZ, nonNeg}
+use lib.Dec.{eqb, lit<}
+use lib.Signed.{ltZ}
 use lib.IntN.{ℤ, pos, negsuc, natAbs, negℤ, _-ℤ_}
 use mir.Syntax.{w64}
 use mir.Val.{SFits}
@@ -22,7 +21,7 @@ use Rattle.text.specs.declared.Field.{Field}
 use Rattle.text.specs.declared.Field.the-variants.{Number, Malformed}
 use Rattle.answers.specs.declared.decimal.Natural.{Natural}
 use Rattle.answers.specs.declared.decimal.Natural.the-variants.{Whole, NoNumber}
-use Rattle.answers.specs.declared.batches.Two.the-variants.{Both, NoTwo}
+use Rattle.answers.specs.declared.batches.Two.the-variants.{NoTwo}
 use Rattle.answers.specs.declared.batches.Opening.the-variants.{NoOpening}
 use Rattle.answers.specs.Batch.{bothOf, twoOf, openingIn, openingOf}
 use Rattle.answers.specs.declared.packed.Header.the-variants.{Broken}
@@ -41,10 +40,6 @@ size-neg (negsuc n) e = refl
 pub size-pos : (z : ℤ) → ltZ z (pos 0) ≡ false → natAbs z ≡ sizeOf z
 size-pos (pos n) e = refl
 size-pos (negsuc n) e = let z : _≡_ {A = ℕ} 0 1 = cc in omega arith
-
-pub size-nonneg : (z : ℤ) → ltZ z (pos 0) ≡ false → T (nonNeg z)
-size-nonneg (pos n) e = tt
-size-nonneg (negsuc n) e = let z : _≡_ {A = ℕ} 0 1 = cc in let f : ⊥ = omega arith in absurd f
 
 pub length-neg : (z : ℤ) → ltZ z (pos 0) ≡ true → lengthOf z ≡ NoRoom
 length-neg (pos n) e = let f : ⊥ = omega (arith, ltb-true n 0 e) in absurd f
@@ -225,20 +220,3 @@ unfolding openingOf
 opening-more s n e = rw (e, add-one n) refl
 
 -- ---- print
-
--- How far a number below 0 is from one below it.
-pub from-minus-one : (z : ℤ) → ltZ z (pos 0) ≡ true → negsuc 0 -ℤ z ≡ pos (natAbs z - 1)
-from-minus-one (pos n) e = let f : ⊥ = omega (arith, ltb-true n 0 e) in absurd f
-from-minus-one (negsuc n) e = rw (le-ltb (suc n) 1 (omega arith)) refl
-
--- A magnitude below 0.
-pub natAbs-below : (z : ℤ) → ltZ z (pos 0) ≡ true → SFits w64 z → (0 < natAbs z) × (natAbs z ≤ 2 ^ 63)
-natAbs-below (pos n) e f = let g : ⊥ = omega (arith, ltb-true n 0 e) in absurd g
-natAbs-below (negsuc n) e f = omega (arith, f .sfits)
-
--- A float that equals itself is a number.
-pub equals-itself : (x : Float) → eq x x ≡ true → T (not (isNan x))
-unfolding eq isNan
-equals-itself nan e = absurd (true≢false (sym e))
-equals-itself (inf s) e = tt
-equals-itself (fin s m k) e = tt

@@ -7,7 +7,6 @@ ghost use Rattle.answers.specs.Batch.{bothOf, twoOf, openingIn, openingO
 use crate::decimal;
 use crate::decimal::Natural;
 use crate::packed;
-use crate::print;
 use crate::queries;
 use book::Book;
 use book::Returned;
@@ -202,9 +201,9 @@ fn answer(chart: &[u8], list: &[i64], count: usize, book: Book, room: u64) -> Bo
     let mut answers = [0u64; 512];
     let n = packed::least(count, list.len());
     let returned = call(book, chart, &list[..n], &mut answers, room);
-    print::batch(returned.refusal, &answers, n / 5);
+    answer_lines::batch(returned.refusal, &answers, n / 5);
     let after = returned.book;
-    print::book(after);
+    answer_lines::book(after);
     after
 }
 

@@ -2,7 +2,6 @@
 ghost use Prim.Native.Nat.{_≤_};
 ghost use lib.ListN.{length};
 use crate::batches;
-use crate::print;
 use crate::queries;
 use crate::queries::Query;
 use crate::rooms;
@@ -17,21 +16,21 @@ const VERTICES: u64 = 129;
 // A text that is broken ends its case.
 pub fn answers(chart: &[u8], text: &[u8], lengths: &[u8], accounts: &[u8], log: &[u8]) {
     let number = estivolh::check(chart);
-    print::verdict(number);
+    answer_lines::verdict(number);
     if !rooms::all_rooms(chart, lengths) {
-        print::broken_rooms();
+        answer_lines::broken_rooms();
         return;
     }
     if !loads(chart, number, text) {
-        print::broken_queries();
+        answer_lines::broken_queries();
         return;
     }
     if !batches::all_batches(chart, accounts) {
-        print::broken_batch();
+        answer_lines::broken_batch();
         return;
     }
     if !run(chart, log) {
-        print::broken_log();
+        answer_lines::broken_log();
     }
 }
 
@@ -45,7 +44,7 @@ fn run(chart: &[u8], log: &[u8]) -> bool {
     }
     let mut out = io::large_buffer();
     let n = program::print(chart, log.len(), log, &mut out);
-    print::word(&out[..n]);
+    answer_lines::word(&out[..n]);
     true
 }
 
@@ -71,12 +70,12 @@ fn gradient(chart: &[u8], vertex: u64) -> bool {
     let found = estivolh::estimate_gradient(chart, vertex);
     match found {
         EstimatedGradient::Components(x, y) => {
-            print::gradient(vertex, x, y);
+            answer_lines::gradient(vertex, x, y);
             true
         }
         EstimatedGradient::Refused(n) => {
             if n != 12 {
-                print::refused_gradient(vertex, n);
+                answer_lines::refused_gradient(vertex, n);
             }
             false
         }
@@ -119,26 +118,26 @@ fn first_query(chart: &[u8], text: &[u8]) -> usize
 
 // The lines of one query.
 fn answer(chart: &[u8], x: i64, y: i64) {
-    print::query(x, y);
-    print::location(estivolh::locate(chart, x, y));
-    print::barycentric(estivolh::barycentric_weights(chart, x, y));
+    answer_lines::query(x, y);
+    answer_lines::location(estivolh::locate(chart, x, y));
+    answer_lines::barycentric(estivolh::barycentric_weights(chart, x, y));
     edges(chart, x, y);
     natural_weights(chart, x, y);
-    print::value(1, estivolh::interpolate(chart, 1, x, y));
-    print::value(2, estivolh::interpolate(chart, 2, x, y));
-    print::value(3, estivolh::interpolate(chart, 3, x, y));
+    answer_lines::value(1, estivolh::interpolate(chart, 1, x, y));
+    answer_lines::value(2, estivolh::interpolate(chart, 2, x, y));
+    answer_lines::value(3, estivolh::interpolate(chart, 3, x, y));
 }
 
 // As long a list as any chart has.
 fn edges(chart: &[u8], x: i64, y: i64) {
     let mut list = [0u64; 756];
     let found = estivolh::natural_neighbor_edges(chart, x, y, &mut list);
-    print::edges(found, &list);
+    answer_lines::edges(found, &list);
 }
 
 fn natural_weights(chart: &[u8], x: i64, y: i64) {
     let mut owners = [0u64; 756];
     let mut shares = [0.0; 756];
     let found = estivolh::natural_neighbor_weights(chart, x, y, &mut owners, &mut shares);
-    print::natural_weights(found, &owners, &shares);
+    answer_lines::natural_weights(found, &owners, &shares);
 }

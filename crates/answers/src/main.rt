@@ -5,7 +5,6 @@ mod case;
 mod decimal;
 mod folder;
 mod packed;
-mod print;
 mod queries;
 mod rooms;
 

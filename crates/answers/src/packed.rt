@@ -4,7 +4,6 @@ ghost use mathlib.Core.Path.{_≡_};
 ghost use Prim.Native.Nat.{_≤_, min};
 ghost use Rattle.answers.specs.Header.{sizeOf, sizesOf, headerOf};
 use crate::case;
-use crate::print;
 use libc::STDIN_FILENO;
 
 // The first number that no field of 8 columns holds.
@@ -60,11 +59,11 @@ fn next_case(
             ) {
                 return true;
             }
-            print::broken_case();
+            answer_lines::broken_case();
             false
         }
         Header::Broken => {
-            print::broken_header();
+            answer_lines::broken_header();
             false
         }
     }

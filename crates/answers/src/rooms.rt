@@ -5,7 +5,6 @@ ghost use lib.ListN.{length};
 ghost use Rattle.answers.specs.Room.{lengthOf, roomOf, beforeLoad, refusalIn};
 use crate::decimal;
 use crate::packed;
-use crate::print;
 use crate::queries;
 use estivolh::NaturalNeighbors;
 use text::Field;
@@ -83,7 +82,7 @@ fn answer(chart: &[u8], length: u64) {
     let edges = edges_refusal(chart, &mut list, length);
     let owners = weights_refusal(chart, &mut list, length, &mut shares, 756);
     let weights = weights_refusal(chart, &mut list, 756, &mut shares, length);
-    print::room(length, edges, owners, weights);
+    answer_lines::room(length, edges, owners, weights);
 }
 
 fn edges_refusal(chart: &[u8], list: &mut [u64], length: u64) -> u64 {

@@ -19,9 +19,9 @@ use Rattle.geometry.specs.Laws.{circle-turn, chord-inside, segment-back}
 use Rattle.chart.specs.Chart.{Chart, partner, partner-twice, partner-in, outer}
 use Rattle.accepted.specs.Accepted.{Accepted, Inner, start, end, apex}
 use Rattle.locate.specs.Location.{onEdge}
-use Rattle.neighbors.specs.Search.{Found, found, inCircle, shouldFlip, opening, inspectFlips, inspectAll, openedCount}
+use Rattle.flips.specs.Search.{Found, found, inCircle, shouldFlip, opening, inspectFlips, inspectAll, openedCount}
 use Rattle.neighbors.specs.Neighbors.{finished, innerEdgeNeighbors, partOfConvexHull}
-use Rattle.neighbors.specs.Laws.{e1-in, e2-in, all-open}
+use Rattle.flips.specs.Laws.{e1-in, e2-in, all-open}
 use Rattle.neighbors.specs.Counting.{All, nil, cons, search-leads, stay-open, edge-length}
 
 module _ (c : Chart) (a : Accepted c) where

@@ -13,9 +13,9 @@ use Rattle.chart.specs.Chart.{Chart, partner, InRange, partner-in}
 use Rattle.locate.specs.declared.Location.{Location}
 use Rattle.locate.specs.declared.Location.the-variants.{OnVertex, OnEdge, OnFace, OutsideOfConvexHull, NoPlace}
 use Rattle.locate.specs.Laws.{Holds}
-use Rattle.neighbors.specs.Search.{Found, found, inspectAll}
+use Rattle.flips.specs.Search.{Found, found, inspectAll}
 use Rattle.neighbors.specs.Neighbors.{starts, finished, faceNeighbors, innerEdgeNeighbors, edgeNeighbors, partOfConvexHull, neighborsOf}
-use Rattle.neighbors.specs.Laws.{e1-in, e2-in}
+use Rattle.flips.specs.Laws.{e1-in, e2-in}
 use Rattle.neighbors.specs.Counting.{Leads, All, search-leads}
 use Rattle.neighbors.specs.Counting.Leads.{stays, opens, lists}
 use Rattle.neighbors.specs.Counting.All.{nil, cons}

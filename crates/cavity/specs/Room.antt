@@ -17,9 +17,9 @@ use Rattle.accepted.specs.Accepted.{Accepted}
 use Rattle.locate.specs.declared.Location.{Location}
 use Rattle.locate.specs.declared.Location.the-variants.{OnVertex, OnEdge, OnFace, OutsideOfConvexHull, NoPlace}
 use Rattle.locate.specs.Laws.{Holds}
-use Rattle.neighbors.specs.Search.{found, inspectAll}
+use Rattle.flips.specs.Search.{found, inspectAll}
 use Rattle.neighbors.specs.Neighbors.{starts, finished, faceNeighbors, innerEdgeNeighbors, edgeNeighbors, partOfConvexHull, neighborsOf}
-use Rattle.neighbors.specs.Stack.{Roomy}
+use Rattle.flips.specs.Stack.{Roomy}
 use Rattle.neighbors.specs.Counting.{face-length, edge-length}
 
 module _ (c : Chart) (a : Accepted c) where

@@ -11,7 +11,7 @@ use lib.Seq.{drop-cons, take-suc, take-suc-set, length-take-le, getD-set-same, g
 use lib.Ieee.{Float, nan}
 use Rattle.chart.specs.Chart.{Chart}
 use Rattle.points.specs.declared.Point2.{Point2}
-use Rattle.natural.specs.Natural.{cellCorner}
+use Rattle.turns.specs.Turn.{cellCorner}
 
 -- the coordinates of the insertion cell's corner for listed edge k
 abbrev pub cornerX : Chart → Point2 → List ℕ → ℕ → Float

@@ -17,9 +17,10 @@ use Rattle.points.specs.Points.{pointOf}
 use Rattle.weights.specs.declared.BarycentricWeights.{BarycentricWeights}
 use Rattle.weights.specs.declared.BarycentricWeights.the-variants.{OneVertex, TwoWeights, ThreeWeights, Refused}
 use Rattle.weights.specs.Barycentric.{weighTwo, vertexWeights, edgeWeights}
-use Rattle.natural.specs.declared.Area.{Area}
-use Rattle.natural.specs.declared.Area.the-variants.{Whole, Broken}
-use Rattle.natural.specs.Natural.{cellCorner, turnFrom, turnOf, Shares, shares, broken, afterTurn, sharesFrom, lastOf, cellShares, sharesOf}
+use Rattle.turns.specs.declared.Area.{Area}
+use Rattle.turns.specs.declared.Area.the-variants.{Whole, Broken}
+use Rattle.turns.specs.Turn.{cellCorner, turnFrom, turnOf}
+use Rattle.natural.specs.Natural.{Shares, shares, broken, afterTurn, sharesFrom, lastOf, cellShares, sharesOf}
 
 -- ---- as many weights as listed edges
 same-shares : {vs ws : List Float} → shares vs ≡ shares ws → vs ≡ ws

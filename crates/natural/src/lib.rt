@@ -1,6 +1,7 @@
 // Natural neighbour weights from the list of natural neighbour edges (01, "Weights"; `get_natural_neighbor_weights`).
 use geometry::Place;
 use points::Point2;
+use turns::Area;
 ghost use mathlib.Core.Path.{_≡_};
 ghost use mathlib.Core.Bool.{true};
 ghost use mathlib.Core.List.{_++_, map};
@@ -8,118 +9,10 @@ ghost use Prim.Native.Nat.{ℕ, _≤_, _<_};
 ghost use lib.ListN.{length, take, drop, getD};
 ghost use Rattle.geometry.specs.Plane.{OnGrid};
 ghost use Rattle.chart.specs.Tables.{rows, originOf};
-ghost use Rattle.chart.specs.Chart.{chartOf, fromOf, InRange};
+ghost use Rattle.chart.specs.Chart.{chartOf, InRange};
 ghost use Rattle.points.specs.Floats.{_/f_};
-ghost use Rattle.points.specs.Points.{pointOf};
-ghost use Rattle.natural.specs.Natural.{cellCorner, faceCenter, firstSide, addSide, areaOf, turnOf, cellShares, twoShares, sharesOf, told, outcome, naturalWeightsOf, Listed};
+ghost use Rattle.natural.specs.Natural.{cellShares, twoShares, sharesOf, told, outcome, naturalWeightsOf, Listed};
 ghost use Rattle.natural.specs.Arrays.{cornerX, cornerY, Holds};
-
-// A polygon's positive and negative area, summed apart.
-pub struct Sides {
-    pub positive: f64,
-    pub negative: f64,
-}
-
-// The area of one neighbour's polygon; or the turn about the neighbour is broken.
-pub enum Area {
-    Whole(f64),
-    Broken,
-}
-
-impl Sides {
-    fn first(a: Point2, b: Point2) -> Sides
-        ensures { λ r. ⌜ r ≡ firstSide a b ⌝ }
-    {
-        Sides {
-            positive: a.x * b.y,
-            negative: a.y * b.x,
-        }
-    }
-
-    fn add(self, a: Point2, b: Point2) -> Sides
-        ensures { λ r. ⌜ r ≡ addSide self a b ⌝ }
-    {
-        Sides {
-            positive: self.positive + a.x * b.y,
-            negative: self.negative + a.y * b.x,
-        }
-    }
-
-    fn area(self) -> f64
-        ensures { λ r. ⌜ r ≡ areaOf self ⌝ }
-    {
-        self.positive - self.negative
-    }
-}
-
-// The point where half-edge h starts.
-fn start_of(vertices: &[i64], edges: &[usize], faces: &[usize], h: usize) -> Point2
-    requires { ⌜ InRange (chartOf (now vertices) (now edges) (now faces)) ⌝ ∗ ⌜ h < rows (now edges) ⌝ }
-    ensures { λ r. ⌜ r ≡ pointOf (fromOf (chartOf (now (vertices .entry)) (now (edges .entry)) (now (faces .entry))) h) ⌝ }
-{
-    points::position(vertices, edges, faces, chart::origin_of(edges, h))
-}
-
-// The insertion cell's corner for the listed edge h, seen from q.
-fn cell_corner(vertices: &[i64], edges: &[usize], faces: &[usize], q: Point2, h: usize) -> Point2
-    requires { ⌜ InRange (chartOf (now vertices) (now edges) (now faces)) ⌝ ∗ ⌜ h < rows (now edges) ⌝ }
-    ensures { λ r. ⌜ r ≡ cellCorner (chartOf (now (vertices .entry)) (now (edges .entry)) (now (faces .entry))) q h ⌝ }
-{
-    let from = start_of(vertices, edges, faces, h);
-    let to = start_of(vertices, edges, faces, chart::partner_of(h));
-    points::circumcenter(to.sub(q), from.sub(q), Point2 { x: 0.0, y: 0.0 })
-}
-
-// The circumcenter of face f, seen from q.
-fn face_center(vertices: &[i64], edges: &[usize], faces: &[usize], q: Point2, f: usize) -> Point2
-    requires { ⌜ InRange (chartOf (now vertices) (now edges) (now faces)) ⌝ ∗ ⌜ f < length (now faces) ⌝ }
-    ensures { λ r. ⌜ r ≡ faceCenter (chartOf (now (vertices .entry)) (now (edges .entry)) (now (faces .entry))) q f ⌝ }
-{
-    let h = chart::adjacent_of(faces, f);
-    let v0 = start_of(vertices, edges, faces, chart::prev_of(edges, h));
-    let v1 = start_of(vertices, edges, faces, h);
-    let v2 = start_of(vertices, edges, faces, chart::next_of(edges, h));
-    points::circumcenter(v0.sub(q), v1.sub(q), v2.sub(q))
-}
-
-// The turn about the neighbour where the listed edge `stop` starts, from the half-edge `start`; `before` and `first` are the cell's corners
-// for `start`'s and `stop`'s listed edges.
-fn turn_about(
-    vertices: &[i64],
-    edges: &[usize],
-    faces: &[usize],
-    q: Point2,
-    stop: usize,
-    first: Point2,
-    start: usize,
-    before: Point2,
-) -> Area
-    requires { ⌜ InRange (chartOf (now vertices) (now edges) (now faces)) ⌝ ∗ ⌜ stop < rows (now edges) ⌝ ∗ ⌜ start < rows (now edges) ⌝ }
-    ensures { λ r. ⌜ r ≡ turnOf (chartOf (now (vertices .entry)) (now (edges .entry)) (now (faces .entry))) q stop first start before ⌝ }
-{
-    let end = chart::partner_of(stop);
-    let most = edges.len() / 4;
-    let mut edge = start;
-    let mut last = before;
-    let mut sides = Sides::first(first, last);
-    let mut steps = 0;
-    while steps < most {
-        let face = chart::face_of(edges, edge);
-        if face == 0 {
-            return Area::Broken;
-        }
-        let current = face_center(vertices, edges, faces, q, face);
-        sides = sides.add(last, current);
-        edge = chart::partner_of(chart::next_of(edges, edge));
-        last = current;
-        if edge == end {
-            let all = sides.add(current, first);
-            return Area::Whole(all.area());
-        }
-        steps += 1;
-    }
-    Area::Broken
-}
 
 // The insertion cell into the first elements of xs and ys.
 fn insertion_cell(
@@ -137,7 +30,7 @@ fn insertion_cell(
 {
     let mut i = 0;
     while i < list.len() {
-        let corner = cell_corner(vertices, edges, faces, q, list[i]);
+        let corner = turns::cell_corner(vertices, edges, faces, q, list[i]);
         xs[i] = corner.x;
         ys[i] = corner.y;
         i += 1;
@@ -180,8 +73,16 @@ fn turn_all(
     while i < n {
         let stop = list[i];
         let first = Point2 { x: xs[i], y: ys[i] };
-        let Area::Whole(area) = turn_about(vertices, edges, faces, q, stop, first, edge, last)
-        else {
+        let Area::Whole(area) = turns::turn_about(
+            vertices,
+            edges,
+            faces,
+            q,
+            stop,
+            first,
+            edge,
+            last,
+        ) else {
             return false;
         };
         xs[i] = area;
@@ -207,8 +108,8 @@ fn two_shares(
     requires { ⌜ (length (now list) ≡ 2) × (2 ≤ length (now xs)) ⌝ }
     ensures { λ _. ⌜ told true (take 2 (now (xs .exit))) ≡ twoShares (chartOf (now (vertices .entry)) (now (edges .entry)) (now (faces .entry))) q (now (list .entry)) ⌝ }
 {
-    let v0 = start_of(vertices, edges, faces, list[0]);
-    let v1 = start_of(vertices, edges, faces, list[1]);
+    let v0 = turns::start_of(vertices, edges, faces, list[0]);
+    let v1 = turns::start_of(vertices, edges, faces, list[1]);
     let w = weights::two_point_interpolation(v0, v1, q);
     xs[0] = w.w0;
     xs[1] = w.w1;

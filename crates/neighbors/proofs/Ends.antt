@@ -13,9 +13,9 @@ use Rattle.faceset.specs.Laws.{count-none, count-new, count-below, below-none, 
 use Rattle.geometry.specs.declared.Place.{Place}
 use Rattle.chart.specs.Chart.{Chart}
 use Rattle.neighbors.specs.declared.Counts.{Counts}
-use Rattle.neighbors.specs.Search.{Found, found, inspectAll}
+use Rattle.flips.specs.Search.{Found, found, inspectAll}
 use Rattle.neighbors.specs.Neighbors.{finished, outcome, counts, written}
-use Rattle.neighbors.specs.Stack.{stackOf, Ready, Searched, Stacked}
+use Rattle.flips.specs.Stack.{stackOf, Ready, Searched, Stacked}
 
 -- ---- the start: a third half-edge on a stack of two
 pub three-stacked : (w : List ℕ) (a b d x : ℕ) → Stacked w 2 (b ∷ d ∷ []) → x ≡ a → Stacked (set w 2 x) 3 (a ∷ b ∷ d ∷ [])

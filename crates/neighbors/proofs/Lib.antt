@@ -1,3 +1,2 @@
-pub mod Steps
 pub mod Reverse
 pub mod Ends

@@ -11,9 +11,9 @@ use Rattle.faceset.specs.Set.{none, add}
 use Rattle.faceset.specs.Laws.{cases, count-none, count-new}
 use Rattle.geometry.specs.declared.Place.{Place}
 use Rattle.chart.specs.Chart.{Chart, partner, InRange, partner-in}
-use Rattle.neighbors.specs.Search.{Found, found, shouldFlip, opening, listing, inspectAll, openedCount, free}
+use Rattle.flips.specs.Search.{Found, found, shouldFlip, opening, listing, inspectAll, openedCount, free}
 use Rattle.neighbors.specs.Neighbors.{starts, finished, faceNeighbors, innerEdgeNeighbors}
-use Rattle.neighbors.specs.Laws.{one-fewer, e1-in, e2-in, all-open, all-border}
+use Rattle.flips.specs.Laws.{one-fewer, e1-in, e2-in, all-open, all-border}
 
 -- Moments of a search, each the half-edges waiting and what is found so far: one leads to another by turns of the loop, which take the first half-edge
 -- that waits

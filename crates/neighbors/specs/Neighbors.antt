@@ -9,7 +9,7 @@ use Rattle.chart.specs.Chart.{Chart, partner, outer}
 use Rattle.locate.specs.declared.Location.{Location}
 use Rattle.locate.specs.declared.Location.the-variants.{OnVertex, OnEdge, OnFace, OutsideOfConvexHull, NoPlace}
 use Rattle.neighbors.specs.declared.Counts.{Counts}
-use Rattle.neighbors.specs.Search.{Found, found, inspectAll, openedCount}
+use Rattle.flips.specs.Search.{Found, found, inspectAll, openedCount}
 
 -- the edges in the Rust's order, and how many faces were opened
 pub record Neighbors : Type 0 where

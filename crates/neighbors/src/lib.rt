@@ -1,5 +1,6 @@
-// The edges of the natural neighbours of a load, by the kind of its location (01, "Weights"; `get_natural_neighbor_edges`, `inspect_flips`).
+// The edges of the natural neighbours of a load, by the kind of its location (01, "Weights"; `get_natural_neighbor_edges`).
 use faceset::FaceSet;
+use flips::Search;
 use geometry::Place;
 use locate::Location;
 ghost use mathlib.Core.Path.{_≡_};
@@ -8,124 +9,16 @@ ghost use Prim.Native.Nat.{_<_, _≤_};
 ghost use lib.ListN.{length, take, drop};
 ghost use Rattle.faceset.specs.Set.{has, countBelow};
 ghost use Rattle.geometry.specs.Plane.{OnGrid};
-ghost use Rattle.chart.specs.Tables.{rows, nextOf, prevOf};
-ghost use Rattle.chart.specs.Chart.{chartOf, partner, InRange};
+ghost use Rattle.chart.specs.Tables.{rows};
+ghost use Rattle.chart.specs.Chart.{chartOf, InRange};
 ghost use Rattle.locate.specs.Laws.{Holds};
-ghost use Rattle.neighbors.specs.Search.{inCircle, shouldFlip};
-ghost use Rattle.neighbors.specs.Stack.{Roomy, Ready, Searched, Stacked};
+ghost use Rattle.flips.specs.Stack.{Roomy, Stacked};
 ghost use Rattle.neighbors.specs.Neighbors.{faceNeighbors, innerEdgeNeighbors, hullEdgeNeighbors, edgeNeighbors, vertexNeighbors, partOfConvexHull, neighborsOf, outcome, written, counts};
 
 // How many edges were listed, and how many faces opened.
 pub struct Counts {
     pub count: usize,
     pub opened: usize,
-}
-
-// Whether q is strictly inside the circle of half-edge h's face.
-fn is_in_circle(vertices: &[i64], edges: &[usize], faces: &[usize], q: Place, h: usize) -> bool
-    requires { ⌜ InRange (chartOf (now vertices) (now edges) (now faces)) ⌝ ∗ ⌜ OnGrid q ⌝ ∗ ⌜ h < rows (now edges) ⌝ }
-    ensures { λ r. ⌜ r ≡ inCircle (chartOf (now (vertices .entry)) (now (edges .entry)) (now (faces .entry))) q h ⌝ }
-{
-    let v2 = chart::from_of(vertices, edges, faces, chart::prev_of(edges, h));
-    let v1 = chart::from_of(vertices, edges, faces, h);
-    let v0 = chart::to_of(vertices, edges, faces, h);
-    geometry::contained_in_circumference(v2, v1, v0, q)
-}
-
-// Whether half-edge h's face is to be opened.
-fn should_flip(
-    vertices: &[i64],
-    edges: &[usize],
-    faces: &[usize],
-    q: Place,
-    opened: FaceSet,
-    h: usize,
-) -> bool
-    requires { ⌜ InRange (chartOf (now vertices) (now edges) (now faces)) ⌝ ∗ ⌜ OnGrid q ⌝ ∗ ⌜ h < rows (now edges) ⌝ ∗ ⌜ length (now faces) ≤ 252 ⌝ }
-    ensures { λ r. ⌜ r ≡ shouldFlip (chartOf (now (vertices .entry)) (now (edges .entry)) (now (faces .entry))) q (has (opened .words)) h ⌝ }
-{
-    let f = chart::face_of(edges, h);
-    if f == 0 {
-        return false;
-    }
-    if opened.contains(f) {
-        return false;
-    }
-    is_in_circle(vertices, edges, faces, q, h)
-}
-
-// A half-edge as an element of the stack, and back.
-fn narrow(h: usize) -> u16
-    requires { ⌜ h < 756 ⌝ }
-    ensures { λ r. ⌜ r ≡ h ⌝ }
-{
-    h as u16
-}
-
-fn wide(h: u16) -> usize
-    ensures { λ r. ⌜ r ≡ h ⌝ }
-{
-    h as usize
-}
-
-// The Rust's e1: the partner of h's next.
-fn behind_next(vertices: &[i64], edges: &[usize], faces: &[usize], h: usize) -> usize
-    requires { ⌜ InRange (chartOf (now vertices) (now edges) (now faces)) ⌝ ∗ ⌜ h < rows (now edges) ⌝ }
-    ensures { λ r. ⌜ r ≡ partner (nextOf (now (edges .entry)) h) ⌝ }
-{
-    chart::partner_of(chart::next_of(edges, h))
-}
-
-// The Rust's e2: the partner of h's prev.
-fn behind_prev(vertices: &[i64], edges: &[usize], faces: &[usize], h: usize) -> usize
-    requires { ⌜ InRange (chartOf (now vertices) (now edges) (now faces)) ⌝ ∗ ⌜ h < rows (now edges) ⌝ }
-    ensures { λ r. ⌜ r ≡ partner (prevOf (now (edges .entry)) h) ⌝ }
-{
-    chart::partner_of(chart::prev_of(edges, h))
-}
-
-// The faces opened, and how many edges stand in the slice.
-struct Search {
-    opened: FaceSet,
-    listed: usize,
-}
-
-// Inspects the first `count` half-edges of `waiting`, the last of them first, and writes the border edges found into `out`. The Rust empties its stack
-// for each start; here all starts wait on one stack, which finds the same.
-fn inspect_flips(
-    vertices: &[i64],
-    edges: &[usize],
-    faces: &[usize],
-    q: Place,
-    start: FaceSet,
-    waiting: &mut [u16; 756],
-    count: usize,
-    out: &mut [usize],
-) -> Search
-    requires { ⌜ InRange (chartOf (now vertices) (now edges) (now faces)) ⌝ ∗ ⌜ OnGrid q ⌝ }
-    requires { ⌜ Roomy (chartOf (now vertices) (now edges) (now faces)) (length (now out)) ⌝ }
-    requires { ⌜ Ready (chartOf (now vertices) (now edges) (now faces)) (has (start .words)) (now waiting) count ⌝ }
-    ensures { λ r. ⌜ Searched (chartOf (now (vertices .entry)) (now (edges .entry)) (now (faces .entry))) q (has (start .words)) (now (waiting .entry)) count (now (out .entry)) (now (out .exit)) (has (r .opened .words)) (r .listed) ⌝ }
-{
-    let mut opened = start;
-    let mut len = count;
-    let mut n: usize = 0;
-    while 0 < len {
-        len -= 1;
-        let h = wide(waiting[len]);
-        if should_flip(vertices, edges, faces, q, opened, h) {
-            opened = opened.insert(chart::face_of(edges, h));
-            let e1 = narrow(behind_next(vertices, edges, faces, h));
-            let e2 = narrow(behind_prev(vertices, edges, faces, h));
-            waiting[len] = e1;
-            waiting[len + 1] = e2;
-            len += 2;
-        } else {
-            out[n] = chart::partner_of(h);
-            n += 1;
-        }
-    }
-    Search { opened, listed: n }
 }
 
 // Reverses the first n elements in place.
@@ -166,8 +59,8 @@ fn stack_two(a: usize, b: usize) -> [u16; 756]
     ensures { λ r. ⌜ Stacked r 2 (a ∷ b ∷ []) ⌝ }
 {
     let mut waiting = [0u16; 756];
-    waiting[0] = narrow(b);
-    waiting[1] = narrow(a);
+    waiting[0] = flips::narrow(b);
+    waiting[1] = flips::narrow(a);
     waiting
 }
 
@@ -177,7 +70,7 @@ fn stack_three(a: usize, b: usize, c: usize) -> [u16; 756]
     ensures { λ r. ⌜ Stacked r 3 (a ∷ b ∷ c ∷ []) ⌝ }
 {
     let mut waiting = stack_two(b, c);
-    waiting[2] = narrow(a);
+    waiting[2] = flips::narrow(a);
     waiting
 }
 
@@ -195,12 +88,12 @@ pub fn face_neighbors(
     ensures { λ r. ⌜ outcome r (now (out .exit)) ≡ written (faceNeighbors (chartOf (now (vertices .entry)) (now (edges .entry)) (now (faces .entry))) q f) (now (out .entry)) ⌝ }
 {
     let h = chart::adjacent_of(faces, f);
-    let a = behind_next(vertices, edges, faces, h);
+    let a = flips::behind_next(vertices, edges, faces, h);
     let b = chart::partner_of(h);
-    let c = behind_prev(vertices, edges, faces, h);
+    let c = flips::behind_prev(vertices, edges, faces, h);
     let mut waiting = stack_three(a, b, c);
     let opened = FaceSet::empty().insert(f);
-    let search = inspect_flips(vertices, edges, faces, q, opened, &mut waiting, 3, out);
+    let search = flips::inspect_flips(vertices, edges, faces, q, opened, &mut waiting, 3, out);
     finish(search, out)
 }
 
@@ -219,7 +112,7 @@ pub fn inner_edge_neighbors(
 {
     let mut waiting = stack_two(h, chart::partner_of(h));
     let opened = FaceSet::empty();
-    let search = inspect_flips(vertices, edges, faces, q, opened, &mut waiting, 2, out);
+    let search = flips::inspect_flips(vertices, edges, faces, q, opened, &mut waiting, 2, out);
     finish(search, out)
 }
 

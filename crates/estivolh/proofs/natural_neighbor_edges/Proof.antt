@@ -20,7 +20,7 @@ enum-known-head-2 c = search needs
 returns : tie.Need-returns
 returns c =
     let a = c .before .before .before .before .before .before .before .args in
-    edges-short (a .chart .now) _ _ _ _ (sym (c .before .before .before .before .read-head .ensures) ∙ c .before .before .head2 .given .1) _ (c .if1 .taken)
+    edges-short (a .chart .now) _ _ _ _ (sym (c .before .before .before .before .read-head .ensures) ∙ c .before .before .head2 .given .1) (a .out .now) (c .if1 .taken)
 
 edges-in-requires : tie.Need-edges-in-requires
 edges-in-requires c κs =
@@ -40,7 +40,7 @@ returns-3 c =
     let s = c .before .before .before .before .before .before .before .before .before .before .before in
     let a = s .args in
     simp (toZ-ofZ (s .fits .x), toZ-ofZ (s .fits .y)) at (c .before .before .edges-in .ensures)
-    ∙ edges-body (a .chart .now) _ _ _ _ (sym (c .before .before .before .before .before .before .before .before .read-head .ensures) ∙ c .before .before .before .before .before .before .head2 .given .1) _ (c .before .before .before .before .if1 .left)
+    ∙ edges-body (a .chart .now) _ _ _ _ (sym (c .before .before .before .before .before .before .before .before .read-head .ensures) ∙ c .before .before .before .before .before .before .head2 .given .1) (a .out .now) (c .before .before .before .before .if1 .left)
 
 pub natural-neighbor-edges-spec : {M : Type 1} → statement M
 natural-neighbor-edges-spec =

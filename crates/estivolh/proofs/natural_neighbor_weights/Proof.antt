@@ -20,12 +20,12 @@ enum-known-head-2 c = search needs
 returns : tie.Need-returns
 returns c =
     let a = c .before .before .before .before .before .before .before .before .args in
-    shares-short (a .chart .now) _ _ _ _ (sym (c .before .before .before .before .read-head .ensures) ∙ c .before .before .head2 .given .1) _ _ (c .if1 .taken)
+    shares-short (a .chart .now) _ _ _ _ (sym (c .before .before .before .before .read-head .ensures) ∙ c .before .before .head2 .given .1) (a .owners .now) (a .weights .now) (c .if1 .taken)
 
 returns-2 : tie.Need-returns-2
 returns-2 c =
     let a = c .before .before .before .before .before .before .before .before .before .args in
-    shares-short-2 (a .chart .now) _ _ _ _ (sym (c .before .before .before .before .before .read-head .ensures) ∙ c .before .before .before .head2 .given .1) _ _ (c .before .if1 .left) (c .if2 .taken)
+    shares-short-2 (a .chart .now) _ _ _ _ (sym (c .before .before .before .before .before .read-head .ensures) ∙ c .before .before .before .head2 .given .1) (a .owners .now) (a .weights .now) (c .before .if1 .left) (c .if2 .taken)
 
 shares-in-requires : tie.Need-shares-in-requires
 shares-in-requires c κs =
@@ -48,7 +48,7 @@ returns-4 c =
     let s = c .before .before .before .before .before .before .before .before .before .before .before .before .before .before .before .before in
     let a = s .args in
     simp (toZ-ofZ (s .fits .x), toZ-ofZ (s .fits .y)) at (c .before .before .before .before .shares-in .ensures)
-    ∙ shares-body (a .chart .now) _ _ _ _ (sym (c .before .before .before .before .before .before .before .before .before .before .before .before .read-head .ensures) ∙ c .before .before .before .before .before .before .before .before .before .before .head2 .given .1) _ _ (c .before .before .before .before .before .before .before .before .if1 .left) (c .before .before .before .before .before .before .before .if2 .left)
+    ∙ shares-body (a .chart .now) _ _ _ _ (sym (c .before .before .before .before .before .before .before .before .before .before .before .before .read-head .ensures) ∙ c .before .before .before .before .before .before .before .before .before .before .head2 .given .1) (a .owners .now) (a .weights .now) (c .before .before .before .before .before .before .before .before .if1 .left) (c .before .before .before .before .before .before .before .if2 .left)
 
 pub natural-neighbor-weights-spec : {M : Type 1} → statement M
 natural-neighbor-weights-spec =

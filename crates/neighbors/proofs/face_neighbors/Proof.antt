@@ -5,7 +5,7 @@ use Prim.Native.Nat.{_<_}
 use Rattle.faceset.specs.Set.{none, add, has}
 use Rattle.chart.specs.Tables.{rows}
 use Rattle.chart.specs.Chart.{partner-in}
-use Rattle.neighbors.specs.Laws.{e1-in, e2-in}
+use Rattle.flips.specs.Laws.{e1-in, e2-in}
 use Rattle.neighbors.specs.Neighbors.{faceNeighbors}
 use Rattle.neighbors.proofs.Ends.{ready-three, ended}
 use borrow.Author.Needs.{needs}

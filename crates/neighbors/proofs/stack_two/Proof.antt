@@ -1,7 +1,7 @@
 -- `neighbors::stack_two` meets its contract: the two stores are the stack. Assumes nothing.
 use mathlib.Core.Path.{refl}
 use mathlib.Core.List.{[], _∷_}
-use Rattle.neighbors.specs.Stack.{stackOf}
+use Rattle.flips.specs.Stack.{stackOf}
 use borrow.Author.Needs.{needs}
 use Rattle.neighbors.proofs.stack_two.Statement.{statement}
 use Rattle.neighbors.proofs.stack_two.Tie as tie

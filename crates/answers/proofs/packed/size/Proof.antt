@@ -2,7 +2,8 @@
 use mir.Facts.{toZ-ofZ, fits-natAbs}
 use mir.Syntax.{w64}
 use mathlib.Core.Path.{sym}
-use Rattle.answers.proofs.Laws.{size-neg, size-pos, size-nonneg}
+use Rattle.answer_lines.specs.Laws.{size-nonneg}
+use Rattle.answers.proofs.Laws.{size-neg, size-pos}
 use Rattle.answers.proofs.packed.size.Statement.{statement}
 use Rattle.answers.proofs.packed.size.Tie as tie
 
