@@ -18,7 +18,7 @@ use Rattle.entries.specs.declared.Ruling.the-variants.{Bend, Splice, Refused}
 use Rattle.entries.specs.Entry.{entriesOf}
 use Rattle.accounts.specs.Batch.{bookChange, bookVerdict, bookAfter, batchRefusal, Outcome, outcome, byRefusal, batchOf}
 use Rattle.accounts.specs.Tally.{tally}
-use Rattle.accounts.specs.Demand.{Call, fresh, joined, OneChart, Turn, Made, callsOf, Demand3Made}
+use Rattle.accounts.specs.Demand.{Call, fresh, joined, OneChart, MadeCall, Made, callsOf, Demand3Made}
 use Rattle.accounts.specs.Demand3.{demand3-made}
 use Rattle.estivolh.specs.Account.{queries}
 use Rattle.estivolh_c.specs.Lent.{kept, Left, left, enough}
@@ -78,31 +78,31 @@ module _ (l : List ℕ) (long : BookNumbers ≤ length l) (chart : List ℕ) (es
   batch-long = ap (λ (w : BatchLeft). length (w .book)) called-long ∙ long-by-refusal refusalIn
 
 -- ---- calls that were made on a slice: the number, the book's slice and the answer slice that each left
-pub record Turned : Type 0 where
+pub record KeptCall : Type 0 where
   pub call : Call
   pub answer : ℕ
   pub book : List ℕ
   pub answers : List ℕ
 
 -- each on the slice that the one before it left; the fact of each is the contract of `estivolh_batch`, word for word
-abbrev pub MadeOn : List ℕ → List Turned → Type 0
+abbrev pub MadeOn : List ℕ → List KeptCall → Type 0
 MadeOn l [] = Unit {0}
 MadeOn l (t ∷ ts) =
     (batchLeft (t .answer) (t .book) (t .answers) ≡ batchCalled l (t .call .chart) (t .call .entries) (t .call .lent)) × MadeOn (t .book) ts
 
 -- the same calls with the book that stands in the slice
-abbrev pub turnOf : Turned → Turn
-turnOf t = record { call = t .call; result = record { refusal = t .answer; book = bookAt (t .book) }; left = t .answers }
+abbrev pub madeCall : KeptCall → MadeCall
+madeCall t = record { call = t .call; result = record { refusal = t .answer; book = bookAt (t .book) }; left = t .answers }
 
-abbrev pub turnsOf : List Turned → List Turn
-turnsOf [] = []
-turnsOf (t ∷ ts) = turnOf t ∷ turnsOf ts
+abbrev pub madeCalls : List KeptCall → List MadeCall
+madeCalls [] = []
+madeCalls (t ∷ ts) = madeCall t ∷ madeCalls ts
 
 -- what a call left, with the book that stands in the slice
 abbrev read : BatchLeft → Outcome
 read w = record { refusal = w .answer; book = bookAt (w .book); answers = w .answers }
 
-made : (ts : List Turned) (l : List ℕ) (b : Book) → BookNumbers ≤ length l → bookAt l ≡ b → MadeOn l ts → Made queries b (turnsOf ts)
+made : (ts : List KeptCall) (l : List ℕ) (b : Book) → BookNumbers ≤ length l → bookAt l ≡ b → MadeOn l ts → Made queries b (madeCalls ts)
 made [] l b long e m = tt
 made (t ∷ ts) l b long e m =
     let c = t .call in
@@ -131,11 +131,11 @@ module _ (s : ℕ) (h : 1 ≤ s) (k : s ≤ SectionMax) (lent : List ℕ) (long 
 
 -- demand 3 of a book in a slice that `estivolh_fresh` wrote and every list of calls of `estivolh_batch` after it kept
 pub demand-kept : (s : ℕ) → 1 ≤ s → s ≤ SectionMax → (lent : List ℕ) → BookNumbers ≤ length lent
-    → (r : ℕ) (l : List ℕ) → left r l ≡ freshCalled s lent → (chart : List ℕ) (ts : List Turned) → MadeOn l ts → OneChart chart (callsOf (turnsOf ts))
-    → Demand3Made queries s chart (turnsOf ts) (tally queries s chart (joined (callsOf (turnsOf ts))))
+    → (r : ℕ) (l : List ℕ) → left r l ≡ freshCalled s lent → (chart : List ℕ) (ts : List KeptCall) → MadeOn l ts → OneChart chart (callsOf (madeCalls ts))
+    → Demand3Made queries s chart (madeCalls ts) (tally queries s chart (joined (callsOf (madeCalls ts))))
 demand-kept s h k lent long r l f chart ts m o =
     let w = fresh-written s h k lent long in
     let e : l ≡ kept 0 (numbersOf (fresh s)) lent = ap (λ (x : Left ℕ). x .slice) (f ∙ w) in
     let b : bookAt l ≡ fresh s = ap bookAt e ∙ over-read (fresh s) (fresh-long s h k lent long) lent long in
     let n : length l ≡ length lent = ap length e ∙ over-long (fresh s) (fresh-long s h k lent long) lent long in
-    demand3-made queries s h k chart (turnsOf ts) (made ts l (fresh s) (omega arith) b m) o
+    demand3-made queries s h k chart (madeCalls ts) (made ts l (fresh s) (omega arith) b m) o
