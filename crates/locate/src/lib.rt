@@ -108,7 +108,7 @@ fn is_left_of(
     left[h]
 }
 
-// Whether q is strictly left of half-edge h, of its next and of its prev.
+// Whether q is strictly left of half-edge h, of its next and of its prev. All three are looked up: one by one the machine could not guess the answers.
 fn is_left_of_three(
     vertices: &[i64],
     edges: &[usize],
@@ -120,13 +120,10 @@ fn is_left_of_three(
     requires { ⌜ InRange (chartOf (now vertices) (now edges) (now faces)) ⌝ ∗ ⌜ Sides (chartOf (now vertices) (now edges) (now faces)) q (now left) (rows (now edges)) ⌝ ∗ ⌜ h < rows (now edges) ⌝ }
     ensures { λ r. ⌜ r ≡ leftOfThree (chartOf (now (vertices .entry)) (now (edges .entry)) (now (faces .entry))) q h ⌝ }
 {
-    if !is_left_of(vertices, edges, faces, q, left, h) {
-        return false;
-    }
-    if !is_left_of(vertices, edges, faces, q, left, chart::next_of(edges, h)) {
-        return false;
-    }
-    is_left_of(vertices, edges, faces, q, left, chart::prev_of(edges, h))
+    let a = is_left_of(vertices, edges, faces, q, left, h);
+    let b = is_left_of(vertices, edges, faces, q, left, chart::next_of(edges, h));
+    let c = is_left_of(vertices, edges, faces, q, left, chart::prev_of(edges, h));
+    a & (b & c)
 }
 
 // Whether f is an inner face and q strictly left of its three half-edges.
