@@ -3,10 +3,9 @@ ghost use mathlib.Core.Path.{_≡_};
 ghost use lib.IntN.{natAbs};
 use book::Book;
 use charge::Charged;
-use estivolh::NaturalNeighbors;
-use estivolh::PositionInTriangulation;
 use libc::STDOUT_FILENO;
-use values::InterpolatedValue;
+use query::NaturalNeighbors;
+use query::PositionInTriangulation;
 use weights::BarycentricWeights;
 
 pub fn verdict(number: u64) {
@@ -116,18 +115,19 @@ pub fn natural_weights(found: NaturalNeighbors, owners: &[u64], shares: &[f64]) 
     }
 }
 
-pub fn value(method: i64, value: InterpolatedValue) {
+pub fn value(method: i64, value: f64, cost: Charged) {
     word(b"value ");
     signed(method);
-    match value {
-        InterpolatedValue::Value(x) => {
-            word(b" ");
-            bits(x);
-            word(b" charge ");
-            charged(estivolh::charge(x));
-        }
-        InterpolatedValue::Refused(n) => ending(b" refused ", n),
-    }
+    word(b" ");
+    bits(value);
+    word(b" charge ");
+    charged(cost);
+}
+
+pub fn refused_value(method: i64, number: u64) {
+    word(b"value ");
+    signed(method);
+    ending(b" refused ", number);
 }
 
 fn charged(cost: Charged) {

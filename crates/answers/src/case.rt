@@ -6,6 +6,7 @@ use crate::queries;
 use crate::queries::Query;
 use crate::rooms;
 use estivolh::EstimatedGradient;
+use values::InterpolatedValue;
 
 // So many bytes fill the buffer of the queries or of the log: the text was cut there, or may have been.
 const CUT: usize = 65536;
@@ -123,9 +124,18 @@ fn answer(chart: &[u8], x: i64, y: i64) {
     answer_lines::barycentric(estivolh::barycentric_weights(chart, x, y));
     edges(chart, x, y);
     natural_weights(chart, x, y);
-    answer_lines::value(1, estivolh::interpolate(chart, 1, x, y));
-    answer_lines::value(2, estivolh::interpolate(chart, 2, x, y));
-    answer_lines::value(3, estivolh::interpolate(chart, 3, x, y));
+    value(chart, 1, x, y);
+    value(chart, 2, x, y);
+    value(chart, 3, x, y);
+}
+
+// The value, and what it costs.
+fn value(chart: &[u8], method: i64, x: i64, y: i64) {
+    let found = estivolh::interpolate(chart, method, x, y);
+    match found {
+        InterpolatedValue::Value(v) => answer_lines::value(method, v, estivolh::charge(v)),
+        InterpolatedValue::Refused(n) => answer_lines::refused_value(method, n),
+    }
 }
 
 // As long a list as any chart has.
