@@ -11,7 +11,7 @@
  * overlaps another slice of the same call.
  *
  * No call keeps anything from one time to the next or uses memory other than its stack and what it is lent: several threads may call
- * at the same time, each with slices of its own. The most stack that a call was measured to take is 63 KB.
+ * at the same time, each with slices of its own. The most stack that a call was measured to take, on the largest chart, is 92 KB.
  *
  * A chart is the bytes of a chart file, which each call checks. Vertices, half-edges and faces are numbered from 0 in the order of the
  * file; face 0 is the outer one. x and y are whole numbers from -10000 to 10000. Floats are IEEE 754 doubles. */

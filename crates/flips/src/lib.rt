@@ -6,6 +6,7 @@ ghost use Prim.Native.Nat.{_<_, _≤_};
 ghost use lib.ListN.{length};
 ghost use Rattle.faceset.specs.Set.{has};
 ghost use Rattle.geometry.specs.Plane.{OnGrid};
+ghost use Rattle.chart.specs.Limits.{MostHalfEdges, MostFaces};
 ghost use Rattle.chart.specs.Tables.{rows, nextOf, prevOf};
 ghost use Rattle.chart.specs.Chart.{chartOf, partner, InRange};
 ghost use Rattle.flips.specs.Search.{inCircle, shouldFlip};
@@ -31,7 +32,7 @@ fn should_flip(
     opened: FaceSet,
     h: usize,
 ) -> bool
-    requires { ⌜ InRange (chartOf (now vertices) (now edges) (now faces)) ⌝ ∗ ⌜ OnGrid q ⌝ ∗ ⌜ h < rows (now edges) ⌝ ∗ ⌜ length (now faces) ≤ 252 ⌝ }
+    requires { ⌜ InRange (chartOf (now vertices) (now edges) (now faces)) ⌝ ∗ ⌜ OnGrid q ⌝ ∗ ⌜ h < rows (now edges) ⌝ ∗ ⌜ length (now faces) ≤ MostFaces ⌝ }
     ensures { λ r. ⌜ r ≡ shouldFlip (chartOf (now (vertices .entry)) (now (edges .entry)) (now (faces .entry))) q (has (opened .words)) h ⌝ }
 {
     let f = chart::face_of(edges, h);
@@ -46,7 +47,7 @@ fn should_flip(
 
 // A half-edge as an element of the stack, and back.
 pub fn narrow(h: usize) -> u16
-    requires { ⌜ h < 756 ⌝ }
+    requires { ⌜ h < MostHalfEdges ⌝ }
     ensures { λ r. ⌜ r ≡ h ⌝ }
 {
     h as u16

@@ -8,6 +8,7 @@ ghost use mathlib.Core.List.{_++_, map};
 ghost use Prim.Native.Nat.{ℕ, _≤_, _<_};
 ghost use lib.ListN.{length, take, drop, getD};
 ghost use Rattle.geometry.specs.Plane.{OnGrid};
+ghost use Rattle.chart.specs.Limits.{MostHalfEdges};
 ghost use Rattle.chart.specs.Tables.{rows, originOf};
 ghost use Rattle.chart.specs.Chart.{chartOf, InRange};
 ghost use Rattle.points.specs.Floats.{_/f_};
@@ -39,7 +40,7 @@ fn insertion_cell(
 
 // Each of the first n areas divided by their sum.
 fn divide_all(areas: &mut [f64], n: usize, total: f64)
-    requires { ⌜ (n ≤ 756) × (n ≤ length (now areas)) ⌝ }
+    requires { ⌜ (n ≤ MostHalfEdges) × (n ≤ length (now areas)) ⌝ }
     ensures { λ _. ⌜ take n (now (areas .exit)) ≡ map (λ area. area /f total) (take n (now (areas .entry))) ⌝ }
 {
     let mut i = 0;
@@ -149,7 +150,7 @@ pub fn natural_shares(
 
 // The first n listed half-edges' starts, each in its half-edge's place.
 pub fn to_origins(edges: &[usize], list: &mut [usize], n: usize)
-    requires { ⌜ (n ≤ 756) × (n ≤ length (now list)) ⌝ ∗ ⌜ ((k : ℕ) → k < n → getD (now list) k 0 < rows (now edges)) ⌝ }
+    requires { ⌜ (n ≤ MostHalfEdges) × (n ≤ length (now list)) ⌝ ∗ ⌜ ((k : ℕ) → k < n → getD (now list) k 0 < rows (now edges)) ⌝ }
     ensures { λ _. ⌜ take n (now (list .exit)) ≡ map (originOf (now (edges .entry))) (take n (now (list .entry))) ⌝ }
 {
     let mut i = 0;
@@ -161,14 +162,14 @@ pub fn to_origins(edges: &[usize], list: &mut [usize], n: usize)
 
 // Room for a float for each half-edge of the largest chart.
 fn room() -> [f64; 756]
-    ensures { λ r. ⌜ length r ≡ 756 ⌝ }
+    ensures { λ r. ⌜ length r ≡ MostHalfEdges ⌝ }
 {
     [0.0; 756]
 }
 
 // The listed edges' starts and the first elements of xs into the caller's slices.
 fn copy_out(edges: &[usize], list: &[usize], xs: &[f64], owners: &mut [u64], weights: &mut [f64])
-    requires { ⌜ ((k : ℕ) → k < length (now list) → getD (now list) k 0 < rows (now edges)) ⌝ ∗ ⌜ length (now list) ≤ 756 ⌝ ∗ ⌜ length (now list) ≤ length (now xs) ⌝ ∗ ⌜ length (now list) ≤ length (now owners) ⌝ ∗ ⌜ length (now list) ≤ length (now weights) ⌝ }
+    requires { ⌜ ((k : ℕ) → k < length (now list) → getD (now list) k 0 < rows (now edges)) ⌝ ∗ ⌜ length (now list) ≤ MostHalfEdges ⌝ ∗ ⌜ length (now list) ≤ length (now xs) ⌝ ∗ ⌜ length (now list) ≤ length (now owners) ⌝ ∗ ⌜ length (now list) ≤ length (now weights) ⌝ }
     ensures { λ _. ⌜ (now (owners .exit) ≡ map (originOf (now (edges .entry))) (now (list .entry)) ++ drop (length (now (list .entry))) (now (owners .entry))) × (now (weights .exit) ≡ take (length (now (list .entry))) (now (xs .entry)) ++ drop (length (now (list .entry))) (now (weights .entry))) ⌝ }
 {
     let mut i = 0;

@@ -1,11 +1,11 @@
--- What the answers say: the count is the list's length, the list stands in front of the slice, the rest of it is as it was; and the answers where
+-- What the answers say: the count is the list's length, the list stands in front of the slice; and the answers where
 -- nothing is searched. Assumes nothing.
 use mathlib.Core.Path.{_≡_, refl, ap}
 use mathlib.Core.Bool.{true, false}
 use mathlib.Core.List.{List, [], _∷_}
 use Prim.Native.Nat.{ℕ}
 use lib.ListN.{length, take, drop}
-use lib.Seq.{take-append-seam, drop-append-seam}
+use lib.Seq.{take-append-seam}
 use Rattle.geometry.specs.declared.Place.{Place}
 use Rattle.chart.specs.Chart.{Chart, partner}
 use Rattle.locate.specs.declared.Location.the-variants.{OnVertex, OnEdge}
@@ -27,11 +27,6 @@ module _ (n : Neighbors) (lent : List ℕ) (r : Counts) (out : List ℕ) (e : ou
   pub answer-edges : take (r .count) out ≡ n .edges
   unfolding written
   answer-edges = rw (answer-count, ap (λ (o : Outcome). o .slice) e) (take-append-seam (n .edges) (drop (length (n .edges)) lent))
-
-  -- the others are as they were
-  pub answer-rest : drop (r .count) out ≡ drop (r .count) lent
-  unfolding written
-  answer-rest = rw (answer-count, ap (λ (o : Outcome). o .slice) e) (drop-append-seam (n .edges) (drop (length (n .edges)) lent))
 
 -- 01's fourth 'mistake seen elsewhere': the hull-edge pair comes in the order edge, partner, and no face is opened
 pub hull-pair : (c : Chart) (q : Place) (h : ℕ) → partOfConvexHull c h ≡ true → neighborsOf c q (OnEdge h) ≡ record { edges = h ∷ partner h ∷ []; opened = 0 }

@@ -9,6 +9,7 @@ ghost use Prim.Native.Nat.{_<_, _≤_};
 ghost use lib.ListN.{length, take, drop};
 ghost use Rattle.faceset.specs.Set.{has, countBelow};
 ghost use Rattle.geometry.specs.Plane.{OnGrid};
+ghost use Rattle.chart.specs.Limits.{MostHalfEdges};
 ghost use Rattle.chart.specs.Tables.{rows};
 ghost use Rattle.chart.specs.Chart.{chartOf, InRange};
 ghost use Rattle.locate.specs.Laws.{Holds};
@@ -55,7 +56,7 @@ fn finish(search: Search, out: &mut [usize]) -> Counts
 
 // A stack of two half-edges, a on top, with room for a whole search.
 fn stack_two(a: usize, b: usize) -> [u16; 756]
-    requires { ⌜ a < 756 ⌝ ∗ ⌜ b < 756 ⌝ }
+    requires { ⌜ a < MostHalfEdges ⌝ ∗ ⌜ b < MostHalfEdges ⌝ }
     ensures { λ r. ⌜ Stacked r 2 (a ∷ b ∷ []) ⌝ }
 {
     let mut waiting = [0u16; 756];
@@ -66,7 +67,7 @@ fn stack_two(a: usize, b: usize) -> [u16; 756]
 
 // A stack of three.
 fn stack_three(a: usize, b: usize, c: usize) -> [u16; 756]
-    requires { ⌜ a < 756 ⌝ ∗ ⌜ b < 756 ⌝ ∗ ⌜ c < 756 ⌝ }
+    requires { ⌜ a < MostHalfEdges ⌝ ∗ ⌜ b < MostHalfEdges ⌝ ∗ ⌜ c < MostHalfEdges ⌝ }
     ensures { λ r. ⌜ Stacked r 3 (a ∷ b ∷ c ∷ []) ⌝ }
 {
     let mut waiting = stack_two(b, c);
@@ -118,7 +119,7 @@ pub fn inner_edge_neighbors(
 
 // On the hull edge of half-edge h: the pair, which the Rust does not reverse.
 pub fn hull_edge_neighbors(h: usize, out: &mut [usize]) -> Counts
-    requires { ⌜ h < 756 ⌝ ∗ ⌜ 2 ≤ length (now out) ⌝ }
+    requires { ⌜ h < MostHalfEdges ⌝ ∗ ⌜ 2 ≤ length (now out) ⌝ }
     ensures { λ r. ⌜ outcome r (now (out .exit)) ≡ written (hullEdgeNeighbors h) (now (out .entry)) ⌝ }
 {
     let partner = chart::partner_of(h);
