@@ -38,7 +38,7 @@ answersFrom Q chart b (e ∷ es) =
     answerOf (bookVerdict Q chart b e) ∷ answersFrom Q chart (bookChange b (bookVerdict Q chart b e)) es
 
 -- elements past the last answer are unchanged
-abbrev pub overlay : List ℕ → List ℕ → List ℕ
+abbrev pub overlay : {A : Type 0} → List A → List A → List A
 overlay new lent = new ++ drop (length new) lent
 
 -- 2: entry slice no multiple of five, or answer slice shorter than the number of entries

@@ -9,15 +9,15 @@ use lib.IntN.{ℤ}
 use lib.ListN.{length}
 use Rattle.book.specs.declared.Returned.{Returned}
 use Rattle.book.specs.Books.{freshBook}
-use Rattle.accounts.specs.Batch.{Outcome, batchOf}
+use Rattle.accounts.specs.Batch.{Outcome, batchOf, overlay}
 use Rattle.estivolh.specs.Account.{Cost, costOf, queries}
 use Rattle.estivolh.specs.Account.Cost.{whole, turnedDown}
-use Rattle.estivolh_c.specs.Lent.{over, kept, Left, left}
+use Rattle.estivolh_c.specs.Lent.{kept, Left, left}
 use Rattle.estivolh_c.specs.Books.{BookNumbers, bookAt, numbersOf}
 
 -- ---- charge: 1 number
 abbrev pub costLeft : Cost → List ℕ → Left ℕ
-costLeft (whole n) lent = left 0 (over (n ∷ []) lent)
+costLeft (whole n) lent = left 0 (overlay (n ∷ []) lent)
 costLeft (turnedDown k) lent = left k lent
 
 abbrev pub chargeCalled : Float → List ℕ → Left ℕ

@@ -8,7 +8,8 @@ use lib.ListN.{length, take, drop, getD, replicate, length-append, length-drop}
 use lib.Seq.{paste, length-take-le, take-all, take-at, drop-at, getD-at, drop-drop}
 use Rattle.book.specs.declared.Book.{Book}
 use Rattle.book.specs.Books.{SectionMax}
-use Rattle.estivolh_c.specs.Lent.{over, paste-after}
+use Rattle.accounts.specs.Batch.{overlay}
+use Rattle.estivolh_c.specs.Lent.{paste-after}
 
 abbrev pub WearAt : ℕ
 WearAt = 1
@@ -72,7 +73,7 @@ module _ (b : Book) (hw : length (b .wear) ≡ SectionMax) (hb : length (b .bend
   -- the four writes of a book are one
   pub book-written : (d : List ℕ)
       → paste (paste (paste (paste d 0 (b .sections ∷ []) 1) WearAt (b .wear) (length (b .wear))) BendsAt (b .bends) (length (b .bends))) RetiredAt (b .retired ∷ []) 1
-      ≡ over (numbersOf b) d
+      ≡ overlay (numbersOf b) d
   book-written d =
       let x : List ℕ = drop (length (b .wear)) (drop 1 d) in
       let y : List ℕ = drop (length (b .bends)) x in

@@ -8,14 +8,11 @@ use lib.Dec.{ltb}
 use lib.ListN.{length, take, drop}
 use lib.Seq.{paste, take-at, take-length, drop-append-add}
 use borrow.Author.Tests.{lt-ltb, le-ltb}
+use Rattle.accounts.specs.Batch.{overlay}
 
--- the new elements in front, those past the last of them unchanged
-abbrev pub over : {A : Type 0} → List A → List A → List A
-over new lent = new ++ drop (length new) lent
-
--- the same by the call's number: a refused call writes nothing
+-- by the call's number: where it is accepted the new elements in front, those past the last of them unchanged; a refused call writes nothing
 abbrev pub kept : {A : Type 0} → ℕ → List A → List A → List A
-kept zero new lent = over new lent
+kept zero new lent = overlay new lent
 kept (suc n) new lent = lent
 
 -- a call's number, and its one slice as it returns
@@ -33,7 +30,7 @@ paste-after front rest new n e =
     rw (← e) (rw (take-at front rest (length front) refl, take-length new, drop-append-add front rest (length new)))
 
 -- and in front
-pub paste-front : {A : Type 0} (new lent : List A) → paste lent 0 new (length new) ≡ over new lent
+pub paste-front : {A : Type 0} (new lent : List A) → paste lent 0 new (length new) ≡ overlay new lent
 paste-front {A} new lent =
     let e : 0 + length new ≡ length new = omega arith in
     ap (λ (n : ℕ). take (length new) new ++ drop n lent) e ∙ ap (λ (l : List A). l ++ drop (length new) lent) (take-length new)

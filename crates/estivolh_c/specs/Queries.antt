@@ -14,7 +14,8 @@ use Rattle.query.specs.Weights as W
 use Rattle.query.specs.Gradient as G
 use Rattle.query.specs.Natural as N
 use Rattle.query.specs.Value as I
-use Rattle.estivolh_c.specs.Lent.{over, Left, left}
+use Rattle.accounts.specs.Batch.{overlay}
+use Rattle.estivolh_c.specs.Lent.{Left, left}
 
 -- ---- locate: kind and number
 -- 01's kinds in its order; a location that was found is never the last
@@ -26,7 +27,7 @@ placeNumbers (OutsideOfConvexHull h) = 4 ∷ h ∷ []
 placeNumbers NoPlace = []
 
 abbrev pub locatedLeft : L.Located → List ℕ → Left ℕ
-locatedLeft (L.Located.at l) lent = left 0 (over (placeNumbers l) lent)
+locatedLeft (L.Located.at l) lent = left 0 (overlay (placeNumbers l) lent)
 locatedLeft (L.Located.turnedDown n) lent = left n lent
 
 abbrev pub locateCalled : List ℕ → ℤ → ℤ → List ℕ → Left ℕ
@@ -44,7 +45,7 @@ weightsLeft n vs ws c = record { answer = n; vertices = vs; weights = ws; found 
 
 abbrev pub barycentricLeft : W.Shares → List ℕ → List Float → List ℕ → WeightsLeft
 barycentricLeft (W.Shares.shares l) vs ws c =
-    weightsLeft 0 (over (map (λ (w : W.Weighted). w .vertex) l) vs) (over (map (λ (w : W.Weighted). w .weight) l) ws) (over (length l ∷ []) c)
+    weightsLeft 0 (overlay (map (λ (w : W.Weighted). w .vertex) l) vs) (overlay (map (λ (w : W.Weighted). w .weight) l) ws) (overlay (length l ∷ []) c)
 barycentricLeft (W.Shares.turnedDown n) vs ws c = weightsLeft n vs ws c
 
 -- barycentric: 3 vertices, 3 weights, how many there are
@@ -54,7 +55,7 @@ barycentricCalled chart x y vs ws c =
 
 -- ---- natural: how many were written, and how many faces were opened
 abbrev pub tallyLeft : N.Tally → List ℕ → Left ℕ
-tallyLeft (N.Tally.listed n o) lent = left 0 (over (n ∷ o ∷ []) lent)
+tallyLeft (N.Tally.listed n o) lent = left 0 (overlay (n ∷ o ∷ []) lent)
 tallyLeft (N.Tally.turnedDown n) lent = left n lent
 
 pub record EdgesLeft : Type 0 where
@@ -79,7 +80,7 @@ sharesCalled chart x y vs ws c = cond (ltb (length c) 2) (weightsLeft 2 vs ws c)
 
 -- ---- gradient: 2 components
 abbrev pub slopeLeft : G.Slope → List Float → Left Float
-slopeLeft (G.Slope.slope x y) lent = left 0 (over (x ∷ y ∷ []) lent)
+slopeLeft (G.Slope.slope x y) lent = left 0 (overlay (x ∷ y ∷ []) lent)
 slopeLeft (G.Slope.turnedDown n) lent = left n lent
 
 abbrev pub gradientCalled : List ℕ → ℕ → List Float → Left Float
@@ -87,7 +88,7 @@ gradientCalled chart v lent = cond (ltb (length lent) 2) (left 2 lent) (slopeLef
 
 -- ---- interpolate: 1 value
 abbrev pub valueLeft : I.Answer → List Float → Left Float
-valueLeft (I.Answer.value v) lent = left 0 (over (v ∷ []) lent)
+valueLeft (I.Answer.value v) lent = left 0 (overlay (v ∷ []) lent)
 valueLeft (I.Answer.turnedDown n) lent = left n lent
 
 abbrev pub interpolateCalled : List ℕ → ℤ → ℤ → ℤ → List Float → Left Float

@@ -21,7 +21,8 @@ ghost use Rattle.query.specs.Location.{positionSays};
 ghost use Rattle.query.specs.Natural.{neighborsSay};
 ghost use Rattle.query.specs.Value.{valueSays};
 ghost use Rattle.query.specs.Weights.{weightsSay};
-ghost use Rattle.estivolh_c.specs.Lent.{over, left};
+ghost use Rattle.accounts.specs.Batch.{overlay};
+ghost use Rattle.estivolh_c.specs.Lent.{left};
 ghost use Rattle.estivolh_c.specs.Books.{BookNumbers, bookAt, numbersOf};
 ghost use Rattle.estivolh_c.specs.Queries.{locatedLeft, locateCalled, weightsLeft, barycentricLeft, barycentricCalled, tallyLeft, edgesLeft, edgesCalled, sharesCalled, slopeLeft, gradientCalled, valueLeft, interpolateCalled};
 ghost use Rattle.estivolh_c.specs.Account.{costLeft, chargeCalled, returnedLeft, freshCalled, batchLeft, batchCalled};
@@ -52,7 +53,7 @@ fn put(list: &[u64], at: usize, out: &mut [u64])
 // Two numbers into the first elements of a slice.
 fn put_two(a: u64, b: u64, out: &mut [u64])
     requires { ⌜ 2 ≤ length (now out) ⌝ }
-    ensures { λ _. ⌜ now (out .exit) ≡ over (a ∷ b ∷ []) (now (out .entry)) ⌝ }
+    ensures { λ _. ⌜ now (out .exit) ≡ overlay (a ∷ b ∷ []) (now (out .entry)) ⌝ }
 {
     let pair = [a, b];
     put(&pair, 0, out);
@@ -61,7 +62,7 @@ fn put_two(a: u64, b: u64, out: &mut [u64])
 // A list of floats into the first elements of a slice.
 fn put_floats(list: &[f64], out: &mut [f64])
     requires { ⌜ length (now list) ≤ length (now out) ⌝ }
-    ensures { λ _. ⌜ now (out .exit) ≡ over (now (list .entry)) (now (out .entry)) ⌝ }
+    ensures { λ _. ⌜ now (out .exit) ≡ overlay (now (list .entry)) (now (out .entry)) ⌝ }
 {
     let mut i = 0;
     while i < list.len() {
@@ -99,7 +100,7 @@ fn read_book(numbers: &[u64]) -> Book
 // A book's numbers into a slice.
 fn write_book(book: Book, out: &mut [u64])
     requires { ⌜ BookNumbers ≤ length (now out) ⌝ }
-    ensures { λ _. ⌜ now (out .exit) ≡ over (numbersOf book) (now (out .entry)) ⌝ }
+    ensures { λ _. ⌜ now (out .exit) ≡ overlay (numbersOf book) (now (out .entry)) ⌝ }
 {
     let sections = [book.sections];
     let wear = book.wear;
@@ -168,7 +169,7 @@ fn put_weights(
     found: &mut [u64],
 )
     requires { ⌜ length (now owners) ≤ length (now vertices) ⌝ ∗ ⌜ length (now list) ≤ length (now weights) ⌝ ∗ ⌜ 1 ≤ length (now found) ⌝ }
-    ensures { λ _. ⌜ weightsLeft 0 (now (vertices .exit)) (now (weights .exit)) (now (found .exit)) ≡ weightsLeft 0 (over (now (owners .entry)) (now (vertices .entry))) (over (now (list .entry)) (now (weights .entry))) (over (length (now (owners .entry)) ∷ []) (now (found .entry))) ⌝ }
+    ensures { λ _. ⌜ weightsLeft 0 (now (vertices .exit)) (now (weights .exit)) (now (found .exit)) ≡ weightsLeft 0 (overlay (now (owners .entry)) (now (vertices .entry))) (overlay (now (list .entry)) (now (weights .entry))) (overlay (length (now (owners .entry)) ∷ []) (now (found .entry))) ⌝ }
 {
     let count = [owners.len() as u64];
     put(owners, 0, vertices);

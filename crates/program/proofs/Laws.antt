@@ -22,7 +22,7 @@ use Rattle.log.specs.Log.Log.{entries, refused}
 use Rattle.report.specs.Lines.{refusalLine, programSections}
 use Rattle.estivolh.specs.Account.{queries}
 use Rattle.report.specs.Laid.{laid}
-use Rattle.program.specs.Program.{programBook, chartFirst, afterChart, entriesPrinted, ranOf, printedOf, Printed, WholeEntries}
+use Rattle.program.specs.Program.{programBook, afterChart, entriesPrinted, refusalPrinted, ranOf, printedOf, Printed, WholeEntries}
 
 -- ---- one answer for each entry
 
@@ -86,13 +86,9 @@ chart-refused chart es (suc k) e h = ap (λ (r : ℕ). afterChart r chart (entri
 pub chart-accepted : (chart : List ℕ) (es : List ℤ) → chartRefusalOf chart ≡ 0 → entriesPrinted chart es ≡ ranOf chart es
 chart-accepted chart es e = ap (λ (r : ℕ). afterChart r chart (entries es)) e
 
-log-refused : (n : ℕ) (chart : List ℕ) (k : ℕ) → afterChart n chart (refused k) ≡ refusalLine (chartFirst n k)
-log-refused zero chart k = refl
-log-refused (suc n) chart k = refl
-
-pub printed-log : (chart : List ℕ) (size : ℕ) (log : List ℕ) (k : ℕ) → logOf size log ≡ refused k → printedOf chart size log ≡ refusalLine (chartFirst (chartRefusalOf chart) k)
+pub printed-log : (chart : List ℕ) (size : ℕ) (log : List ℕ) (k : ℕ) → logOf size log ≡ refused k → printedOf chart size log ≡ refusalPrinted chart k
 unfolding printedOf
-printed-log chart size log k e = ap (afterChart (chartRefusalOf chart) chart) e ∙ log-refused (chartRefusalOf chart) chart k
+printed-log chart size log k e = ap (afterChart (chartRefusalOf chart) chart) e
 
 pub printed-entries : (chart : List ℕ) (size : ℕ) (log : List ℕ) (es : List ℤ) → logOf size log ≡ entries es → printedOf chart size log ≡ entriesPrinted chart es
 unfolding printedOf

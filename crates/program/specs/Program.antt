@@ -34,10 +34,9 @@ afterChart (suc k) chart log = refusalLine (suc k)
 abbrev pub entriesPrinted : List ℕ → List ℤ → List ℕ
 entriesPrinted chart es = afterChart (chartRefusalOf chart) chart (entries es)
 
--- which refusal is printed where the log is refused
-abbrev pub chartFirst : ℕ → ℕ → ℕ
-chartFirst zero log = log
-chartFirst (suc k) log = suc k
+-- and for a chart and a log that is refused
+abbrev pub refusalPrinted : List ℕ → ℕ → List ℕ
+refusalPrinted chart k = afterChart (chartRefusalOf chart) chart (refused k)
 
 -- 01 "Program": all that is printed for a chart and a log of so many bytes, of which the first that an accepted log can have are enough
 unfoldable pub printedOf : List ℕ → ℕ → List ℕ → List ℕ

@@ -3,9 +3,9 @@ use entries::ENTRY_WIDTH;
 ghost use mathlib.Core.Path.{_≡_};
 ghost use Prim.Native.Nat.{_≤_};
 ghost use lib.ListN.{length};
-ghost use Rattle.reading.specs.Reading.{chartRefusalOf};
 ghost use Rattle.log.specs.Log.{entriesMax};
-ghost use Rattle.program.specs.Program.{outputMax, chartFirst, entriesPrinted, printedOf, Printed, WholeEntries};
+ghost use Rattle.report.specs.Lines.{refusalLine};
+ghost use Rattle.program.specs.Program.{outputMax, entriesPrinted, refusalPrinted, printedOf, Printed, WholeEntries};
 
 // Room for the answers of the longest log.
 fn answer_room() -> [u64; 512]
@@ -16,7 +16,7 @@ fn answer_room() -> [u64; 512]
 
 // The number that is printed where the log is refused: chart first.
 fn first_refusal(chart: &[u8], log: u64) -> u64
-    ensures { λ r. ⌜ r ≡ chartFirst (chartRefusalOf (now (chart .entry))) log ⌝ }
+    ensures { λ r. ⌜ refusalLine r ≡ refusalPrinted (now (chart .entry)) log ⌝ }
 {
     let refusal = estivolh::check(chart);
     if refusal != 0 {

@@ -3,7 +3,8 @@ use mathlib.Core.Path.{ap, _∙_}
 use mathlib.Core.List.{List}
 use Prim.Native.Nat.{ℕ}
 use lib.Ieee.{Float}
-use Rattle.estivolh_c.specs.Lent.{over, paste-front}
+use Rattle.accounts.specs.Batch.{overlay}
+use Rattle.estivolh_c.specs.Lent.{paste-front}
 use Rattle.estivolh_c.specs.Queries.{weightsLeft}
 use borrow.Author.Needs.{needs}
 use Rattle.estivolh_c.proofs.put_weights.Statement.{statement}
@@ -36,9 +37,9 @@ returns c =
     let p = c .before .before .before .before .before .before .before .before .before .before .before .put in
     let f = c .before .before .before .before .before .before .before .put-floats in
     let n = c .before .before .put2 in
-    let vs = over (a .owners .now) (a .vertices .now) in
+    let vs = overlay (a .owners .now) (a .vertices .now) in
     ap (λ (l : List ℕ). weightsLeft 0 l (f .last .1 .0) (n .last .1 .1 .0)) (p .ensures ∙ paste-front (a .owners .now) (a .vertices .now))
-    ∙ (ap (λ (l : List Float). weightsLeft 0 vs l (n .last .1 .1 .0)) (f .ensures) ∙ ap (weightsLeft 0 vs (over (a .list .now) (a .weights .now))) (n .ensures))
+    ∙ (ap (λ (l : List Float). weightsLeft 0 vs l (n .last .1 .1 .0)) (f .ensures) ∙ ap (weightsLeft 0 vs (overlay (a .list .now) (a .weights .now))) (n .ensures))
 
 pub put-weights-spec : {M : Type 1} → statement M
 put-weights-spec =
