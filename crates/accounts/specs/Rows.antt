@@ -13,7 +13,7 @@ use Rattle.entries.specs.declared.Entry.{Entry}
 use Rattle.entries.specs.declared.Ruling.{Ruling}
 use Rattle.entries.specs.declared.Ruling.the-variants.{Bend, Splice, Refused}
 use Rattle.entries.specs.Ruling.{meets17}
-use Rattle.values.specs.declared.InterpolatedValue.the-variants.{Value}
+use Rattle.values.specs.Value.Answer.{value}
 use Rattle.accounts.specs.Rulings.{Queries, entryRuling}
 use Rattle.accounts.specs.Batch.{bookAfter}
 use Rattle.accounts.specs.Tally.{charges, wearSum, bendCount}
@@ -25,7 +25,7 @@ history = Bend 0 5 ∷ Bend 1 9 ∷ Splice 0 ∷ Bend 0 7 ∷ Refused 14 ∷ Ben
 
 -- a value of 100.0 for every load
 abbrev pub hundred : Queries
-hundred chart method place = Value (ofBits binary64 0x4059_0000_0000_0000)
+hundred chart method place = value (ofBits binary64 0x4059_0000_0000_0000)
 
 -- a bend and a splice of section 0
 abbrev pub bend : Entry

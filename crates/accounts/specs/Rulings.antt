@@ -11,8 +11,7 @@ use Rattle.geometry.specs.declared.Place.{Place}
 use Rattle.geometry.specs.Plane.{offGrid}
 use Rattle.chart.specs.Tables.{unsigned}
 use Rattle.ranges.specs.Passed.{below}
-use Rattle.values.specs.declared.InterpolatedValue.{InterpolatedValue}
-use Rattle.values.specs.declared.InterpolatedValue.the-variants as I
+use Rattle.values.specs.Value.{Answer}
 use Rattle.entries.specs.declared.Entry.{Entry}
 use Rattle.entries.specs.declared.Ruling.{Ruling}
 use Rattle.entries.specs.declared.Ruling.the-variants.{Bend, Splice, Refused}
@@ -22,16 +21,16 @@ use Rattle.charge.specs.Nearest.{on-scale}
 
 -- what the chart's queries say: from the chart's bytes, a method and a place
 abbrev pub Queries : Type 0
-Queries = List ℕ → ℤ → Place → InterpolatedValue
+Queries = List ℕ → ℤ → Place → Answer
 
 -- 16, or a bend with its charge
 abbrev pub charged : ℕ → Float → Ruling
 charged i v = chargeCase (Bend i) Refused (chargeOf v)
 
 -- what the queries say of a bend: 14 or 15, or the value, which 16 may meet
-abbrev pub bendRuling : ℕ → InterpolatedValue → Ruling
-bendRuling i (I.Value v) = charged i v
-bendRuling i (I.Refused k) = Refused k
+abbrev pub bendRuling : ℕ → Answer → Ruling
+bendRuling i (Answer.value v) = charged i v
+bendRuling i (Answer.turnedDown k) = Refused k
 
 -- 12 to 16 in their order; 14 to 16 meet bends only, as no other kind is located or charged
 unfoldable pub entryRuling : Queries → ℕ → List ℕ → Entry → Ruling
@@ -53,9 +52,9 @@ charged-known s i h v = go (offScale v) refl
     go true e = rw e tt
     go false e = rw e (h, on-scale v e .1)
 
-bend-known : (s i : ℕ) → i < s → (a : InterpolatedValue) → Known s (bendRuling i a)
-bend-known s i h (I.Value v) = charged-known s i h v
-bend-known s i h (I.Refused k) = tt
+bend-known : (s i : ℕ) → i < s → (a : Answer) → Known s (bendRuling i a)
+bend-known s i h (Answer.value v) = charged-known s i h v
+bend-known s i h (Answer.turnedDown k) = tt
 
 pub known : (Q : Queries) (s : ℕ) (chart : List ℕ) (e : Entry) → Known s (entryRuling Q s chart e)
 unfolding entryRuling

@@ -11,9 +11,7 @@ use Rattle.geometry.specs.Plane.{offGrid}
 use Rattle.chart.specs.Chart.{Chart}
 use Rattle.chart.specs.Tables.{unsigned}
 use Rattle.ranges.specs.Ranges.{notBelow}
-use Rattle.values.specs.declared.InterpolatedValue.{InterpolatedValue}
-use Rattle.values.specs.declared.InterpolatedValue.the-variants as I
-use Rattle.values.specs.Value.{methodOf, locatedValue, valueOn, UpTo15, value-up-to-15, value-located}
+use Rattle.values.specs.Value.{Answer, methodOf, locatedValue, valueOn, UpTo15, value-up-to-15, value-located}
 use Rattle.charge.specs.Charging.{offScale}
 use Rattle.book.specs.declared.Book.{Book}
 use Rattle.book.specs.Books.{totalWear, countOf, ValidBook}
@@ -68,9 +66,9 @@ module _ (c : Chart) (s : ℕ) (e : Entry) where
       go true h = rw h (omega arith)
       go false h = rw h tt
 
-  bend-up-to-17 : (i : ℕ) (a : InterpolatedValue) → UpTo15 a → UpTo17 (bendRuling i a)
-  bend-up-to-17 i (I.Value v) f = charged-up-to-17 i v
-  bend-up-to-17 i (I.Refused k) f = omega arith
+  bend-up-to-17 : (i : ℕ) (a : Answer) → UpTo15 a → UpTo17 (bendRuling i a)
+  bend-up-to-17 i (Answer.value v) f = charged-up-to-17 i v
+  bend-up-to-17 i (Answer.turnedDown k) f = omega arith
 
   cond-up-to-17 : (b : Bool) (x y : Ruling) → UpTo17 x → UpTo17 y → UpTo17 (cond b x y)
   cond-up-to-17 true x y f g = f

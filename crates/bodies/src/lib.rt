@@ -11,7 +11,9 @@ ghost use lib.ListN.{length};
 ghost use Rattle.ranges.specs.Passed.{Counted};
 ghost use Rattle.reading.specs.Reading.{loadOf, refusalOf};
 ghost use Rattle.query.specs.Gradient.{gradientSays, gradientIn};
-ghost use Rattle.query.specs.Natural.{neighborsSay, edgesLeft, edgesIn, sharesLeft, sharesIn};
+ghost use Rattle.query.specs.Natural.{edgesLeft, edgesIn, sharesLeft, sharesIn};
+ghost use Rattle.weights.specs.Barycentric.{weightsSay};
+ghost use Rattle.values.specs.Value.{valueSays};
 ghost use Rattle.query.specs.Value.{valueIn};
 ghost use Rattle.query.specs.Location.{positionSays, locateIn};
 ghost use Rattle.query.specs.Weights.{barycentricIn};
@@ -66,7 +68,7 @@ pub fn locate_in(chart: &[u8], v: usize, e: usize, f: usize, q: Place) -> Positi
 // In the body of a chart whose head has these counts.
 pub fn weights_in(chart: &[u8], v: usize, e: usize, f: usize, q: Place) -> BarycentricWeights
     requires { ⌜ Counted v e f ⌝ }
-    ensures { λ r. ⌜ r ≡ barycentricIn (loadOf v e f (now (chart .entry))) q ⌝ }
+    ensures { λ r. ⌜ weightsSay r ≡ barycentricIn (loadOf v e f (now (chart .entry))) q ⌝ }
 {
     let mut vertices = vertex_room();
     let mut edges = edge_room();
@@ -107,7 +109,7 @@ pub fn edges_in(
     out: &mut [u64],
 ) -> NaturalNeighbors
     requires { ⌜ Counted v e f ⌝ ∗ ⌜ e ≤ length (now out) ⌝ }
-    ensures { λ r. ⌜ edgesLeft (neighborsSay r) (now (out .exit)) ≡ edgesIn (loadOf v e f (now (chart .entry))) q (now (out .entry)) ⌝ }
+    ensures { λ r. ⌜ edgesLeft r (now (out .exit)) ≡ edgesIn (loadOf v e f (now (chart .entry))) q (now (out .entry)) ⌝ }
 {
     let mut vertices = vertex_room();
     let mut edges = edge_room();
@@ -132,7 +134,7 @@ pub fn shares_in(
     weights: &mut [f64],
 ) -> NaturalNeighbors
     requires { ⌜ Counted v e f ⌝ ∗ ⌜ e ≤ length (now owners) ⌝ ∗ ⌜ e ≤ length (now weights) ⌝ }
-    ensures { λ r. ⌜ sharesLeft (neighborsSay r) (now (owners .exit)) (now (weights .exit)) ≡ sharesIn (loadOf v e f (now (chart .entry))) q (now (owners .entry)) (now (weights .entry)) ⌝ }
+    ensures { λ r. ⌜ sharesLeft r (now (owners .exit)) (now (weights .exit)) ≡ sharesIn (loadOf v e f (now (chart .entry))) q (now (owners .entry)) (now (weights .entry)) ⌝ }
 {
     let mut vertices = vertex_room();
     let mut edges = edge_room();
@@ -156,7 +158,7 @@ pub fn value_in(
     q: Place,
 ) -> InterpolatedValue
     requires { ⌜ Counted v e f ⌝ }
-    ensures { λ r. ⌜ r ≡ valueIn (loadOf v e f (now (chart .entry))) method q ⌝ }
+    ensures { λ r. ⌜ valueSays r ≡ valueIn (loadOf v e f (now (chart .entry))) method q ⌝ }
 {
     let mut vertices = vertex_room();
     let mut edges = edge_room();

@@ -15,7 +15,7 @@ use lib.Ieee.Back.{round-whole}
 use borrow.Author.Tests.{ltb-true, ltb-false, lt-ltb, le-ltb, le-leb, lt-leb, eq-eqb, ne-eqb}
 use Rattle.whole.specs.Fractions.{own, add-frac, lt-frac}
 use Rattle.charge.specs.Charging.{ChargeMax, offScale, rounded, chargeOf}
-use Rattle.charge.specs.declared.Charged.the-variants.{Whole, Refused}
+use Rattle.charge.specs.Charging.Cost.{whole, turnedDown}
 
 -- ---- the constants of the code: -0.5, 1,000,000.5 and 0.5
 abbrev pub lowEnd : Float
@@ -199,11 +199,11 @@ rounded-hi (fin true m e) h p =
     absurd (true≢false (rw (cut-neg, lt-ltb 0 (m * up e * 2 + 1 * down e) (omega arith)) at r))
 
 -- ---- the ways out
-pub refused : (v : Float) → offScale v ≡ true → Refused 16 ≡ chargeOf v
+pub refused : (v : Float) → offScale v ≡ true → turnedDown 16 ≡ chargeOf v
 refused v e = rw e
 
-pub cost-lo : (v : Float) → OnScale v → lt v (middle v) ≡ true → Whole (toUnsigned 64 v) ≡ chargeOf v
-cost-lo v h p = rw (on-scale v h) (ap Whole (sym (rounded-lo v h p)))
+pub cost-lo : (v : Float) → OnScale v → lt v (middle v) ≡ true → whole (toUnsigned 64 v) ≡ chargeOf v
+cost-lo v h p = rw (on-scale v h) (ap whole (sym (rounded-lo v h p)))
 
-pub cost-hi : (v : Float) → OnScale v → lt v (middle v) ≡ false → Whole (toUnsigned 64 v + 1) ≡ chargeOf v
-cost-hi v h p = rw (on-scale v h) (ap Whole (sym (rounded-hi v h p)))
+pub cost-hi : (v : Float) → OnScale v → lt v (middle v) ≡ false → whole (toUnsigned 64 v + 1) ≡ chargeOf v
+cost-hi v h p = rw (on-scale v h) (ap whole (sym (rounded-hi v h p)))

@@ -42,11 +42,21 @@ rounded (inf s) = 0
 rounded (fin false m e) = (m * up e * 2 + down e) / (down e * 2)
 rounded (fin true m e) = 0
 
+-- the whole number, or the number of the refusal
+pub data Cost : Type 0 where
+  whole : ℕ → Cost
+  turnedDown : ℕ → Cost
+
 -- the charge of a value, or refusal 16. `charge-is` and `is-charge` prove that it is 01's n
-abbrev pub chargeOf : Float → Charged
-chargeOf v = cond (offScale v) (Refused 16) (Whole (rounded v))
+abbrev pub chargeOf : Float → Cost
+chargeOf v = cond (offScale v) (turnedDown 16) (whole (rounded v))
 
 -- by cases
-abbrev pub chargeCase : {A : Type 0} → (ℕ → A) → (ℕ → A) → Charged → A
-chargeCase whole refused (Whole n) = whole n
-chargeCase whole refused (Refused k) = refused k
+abbrev pub chargeCase : {A : Type 0} → (ℕ → A) → (ℕ → A) → Cost → A
+chargeCase f g (whole n) = f n
+chargeCase f g (turnedDown k) = g k
+
+-- what each case of the call's answer says, in 01's numbers
+abbrev pub chargeSays : Charged → Cost
+chargeSays (Whole n) = whole n
+chargeSays (Refused k) = turnedDown k

@@ -15,7 +15,7 @@ use Rattle.whole.specs.Poly.{Expr, var, con, _⊕_, _⊖_, _⊗_, env, agree, s
 use Rattle.whole.specs.Sign.{Above, AtLeast, above-atleast, above-cancel}
 use Rattle.charge.specs.Order.{le-atleast, atleast-le, lt-above, above-lt, above-sub}
 use Rattle.charge.specs.Charging.{ChargeMax, Nearest, signed, IsCharge, offScale, rounded, chargeOf}
-use Rattle.charge.specs.declared.Charged.the-variants.{Whole, Refused}
+use Rattle.charge.specs.Charging.Cost.{whole, turnedDown}
 
 -- ---- the two differences whose signs say that n is nearest to x / d
 abbrev past : ℤ → ℕ → ℤ → ℤ
@@ -206,22 +206,22 @@ scale-on (fin true m e) n h a =
     let q = down-nearest (m * up e) (down e) n a in
     (le-ltb (down e) (m * up e * 2) (omega arith), none-negative (m * up e) (down e) (down-pos e) n q)
 
-apart : (k n : ℕ) → Refused k ≡ Whole n → ⊥
+apart : (k n : ℕ) → turnedDown k ≡ whole n → ⊥
 apart k n p = let z : _≡_ {A = ℕ} 0 1 = cc in omega arith
 
-same-whole : (n k : ℕ) → Whole n ≡ Whole k → n ≡ k
+same-whole : (n k : ℕ) → whole n ≡ whole k → n ≡ k
 same-whole n k p = cc
 
 -- n is the charge exactly when it is one of 0 to 1,000,000 with n - 0.5 <= v < n + 0.5
-pub charge-is : (v : Float) (n : ℕ) → chargeOf v ≡ Whole n → IsCharge v (pos n) × (n ≤ ChargeMax)
+pub charge-is : (v : Float) (n : ℕ) → chargeOf v ≡ whole n → IsCharge v (pos n) × (n ≤ ChargeMax)
 charge-is v n h = go (offScale v) refl
   where
     go : (b : Bool) → offScale v ≡ b → IsCharge v (pos n) × (n ≤ ChargeMax)
     go true e = absurd (apart 16 n (rw e at h))
     go false e = subst (λ (k : ℕ). IsCharge v (pos k) × (k ≤ ChargeMax)) (same-whole (rounded v) n (rw e at h)) (on-scale v e)
 
-pub is-charge : (v : Float) (n : ℕ) → n ≤ ChargeMax → IsCharge v (pos n) → chargeOf v ≡ Whole n
-is-charge v n h a = let q = scale-on v n h a in rw (q .0) (ap Whole (q .1))
+pub is-charge : (v : Float) (n : ℕ) → n ≤ ChargeMax → IsCharge v (pos n) → chargeOf v ≡ whole n
+is-charge v n h a = let q = scale-on v n h a in rw (q .0) (ap whole (q .1))
 
 -- one from 0 to 1,000,000 exists exactly when 16 does not meet the value
 pub record Some (v : Float) : Type 0 where

@@ -1,10 +1,9 @@
--- The public calls `charge`, `fresh` and `batch`: 01, "Charge, entry, book", behind the refusals of a call.
+-- The public call `batch`: 01, "Charge, entry, book", behind the refusals of a call.
 use mathlib.Core.Path.{_≡_, refl, sym, _∙_, ap}
 use mathlib.Core.List.{List, [], _∷_}
 use mathlib.Core.Bool.{Bool, true, false, cond}
 use Prim.Native.Nat.{ℕ, zero, suc}
 use lib.IntN.{ℤ}
-use lib.Ieee.{Float}
 use lib.ListN.{length}
 use Rattle.geometry.specs.declared.Place.{Place}
 use Rattle.geometry.specs.Plane.{offGrid}
@@ -13,11 +12,7 @@ use Rattle.chart.specs.Tables.{unsigned}
 use Rattle.checks.specs.Checks.{Loaded}
 use Rattle.checks.specs.Checks.Loaded.{loaded, refused}
 use Rattle.reading.specs.Reading.{refusalOf, chartIn, chartRefusalOf}
-use Rattle.values.specs.declared.InterpolatedValue.{InterpolatedValue}
-use Rattle.values.specs.Value.{methodOf}
-use Rattle.charge.specs.declared.Charged.{Charged}
-use Rattle.charge.specs.declared.Charged.the-variants.{Whole, Refused}
-use Rattle.charge.specs.Charging.{chargeOf}
+use Rattle.values.specs.Value.{Answer, methodOf}
 use Rattle.book.specs.declared.Book.{Book}
 use Rattle.book.specs.Books.{totalWear, countOf, badBook}
 use Rattle.entries.specs.declared.Entry.{Entry}
@@ -30,21 +25,6 @@ use Rattle.accounts.specs.Batch.{bookVerdict, bookChange, bookAfter, answersFro
 use Rattle.batch.specs.Tables.{onTables}
 use Rattle.query.specs.Value.{valueIn}
 
--- ---- charge
--- the whole number, or the number of the refusal
-pub data Cost : Type 0 where
-  whole : ℕ → Cost
-  turnedDown : ℕ → Cost
-
--- what each case of the call's answer says, in 01's numbers
-abbrev pub chargeSays : Charged → Cost
-chargeSays (Whole n) = whole n
-chargeSays (Refused k) = turnedDown k
-
-abbrev pub costOf : Float → Cost
-costOf v = chargeSays (chargeOf v)
-
--- ---- batch
 -- a bend's value is the one that `interpolate` answers
 abbrev pub queries : Queries
 queries bytes method place = valueIn (chartIn bytes) (methodOf method) place
@@ -64,7 +44,7 @@ module _ (P Q : Queries) (x y : List ℕ) (same : P x ≡ Q y) where
   same-ruling : (s : ℕ) (e : Entry) → entryRuling P s x e ≡ entryRuling Q s y e
   unfolding entryRuling
   same-ruling s e =
-      ap (λ (g : ℤ → Place → InterpolatedValue). cond (unknown s e) (R.Refused 12)
+      ap (λ (g : ℤ → Place → Answer). cond (unknown s e) (R.Refused 12)
       (cond (offGrid (placeIn e)) (R.Refused 13)
       (cond (isSplice (e .kind)) (R.Splice (unsigned (e .section))) (bendRuling (unsigned (e .section)) (g (e .method) (placeIn e)))))) same
 

@@ -16,14 +16,17 @@ ghost use lib.ListN.{length};
 ghost use Rattle.ranges.specs.Passed.{Counted};
 ghost use Rattle.reading.specs.Reading.{loadOf, chartRefusalOf};
 ghost use Rattle.query.specs.Gradient.{gradientSays, estimateOf};
-ghost use Rattle.query.specs.Natural.{neighborsSay, edgesLeft, naturalEdgesOf, sharesLeft, naturalSharesOf};
-ghost use Rattle.query.specs.Value.{valueSays, interpolateOf};
+ghost use Rattle.query.specs.Natural.{edgesLeft, naturalEdgesOf, sharesLeft, naturalSharesOf};
+ghost use Rattle.values.specs.Value.{valueSays};
+ghost use Rattle.query.specs.Value.{interpolateOf};
+ghost use Rattle.charge.specs.Charging.{chargeSays, chargeOf};
 ghost use Rattle.book.specs.Books.{freshBook, ValidBook};
 ghost use Rattle.entries.specs.Entry.{EntryWidth};
 ghost use Rattle.accounts.specs.Batch.{badSlices, outcome, batchOf};
-ghost use Rattle.estivolh.specs.Account.{chargeSays, costOf, queries, batchIn};
+ghost use Rattle.estivolh.specs.Account.{queries, batchIn};
 ghost use Rattle.query.specs.Location.{positionSays, locateOf};
-ghost use Rattle.query.specs.Weights.{weightsSay, barycentricOf};
+ghost use Rattle.weights.specs.Barycentric.{weightsSay};
+ghost use Rattle.query.specs.Weights.{barycentricOf};
 
 // Whether any bytes are an accepted chart (0), or which of the refusals 3 to 11 meets them first.
 pub fn check(chart: &[u8]) -> u64
@@ -71,7 +74,7 @@ pub fn estimate_gradient(chart: &[u8], vertex: u64) -> EstimatedGradient
 
 // The natural neighbour edges of the load at (x, y) on a chart, into the first elements of a lent slice.
 pub fn natural_neighbor_edges(chart: &[u8], x: i64, y: i64, out: &mut [u64]) -> NaturalNeighbors
-    ensures { λ r. ⌜ edgesLeft (neighborsSay r) (now (out .exit)) ≡ naturalEdgesOf (now (chart .entry)) x y (now (out .entry)) ⌝ }
+    ensures { λ r. ⌜ edgesLeft r (now (out .exit)) ≡ naturalEdgesOf (now (chart .entry)) x y (now (out .entry)) ⌝ }
 {
     let head = reading::read_head(chart);
     match head {
@@ -93,7 +96,7 @@ pub fn natural_neighbor_weights(
     owners: &mut [u64],
     weights: &mut [f64],
 ) -> NaturalNeighbors
-    ensures { λ r. ⌜ sharesLeft (neighborsSay r) (now (owners .exit)) (now (weights .exit)) ≡ naturalSharesOf (now (chart .entry)) x y (now (owners .entry)) (now (weights .entry)) ⌝ }
+    ensures { λ r. ⌜ sharesLeft r (now (owners .exit)) (now (weights .exit)) ≡ naturalSharesOf (now (chart .entry)) x y (now (owners .entry)) (now (weights .entry)) ⌝ }
 {
     let head = reading::read_head(chart);
     match head {
@@ -130,7 +133,7 @@ pub fn interpolate(chart: &[u8], method: i64, x: i64, y: i64) -> InterpolatedVal
 
 // What a value costs.
 pub fn charge(value: f64) -> Charged
-    ensures { λ r. ⌜ chargeSays r ≡ costOf value ⌝ }
+    ensures { λ r. ⌜ chargeSays r ≡ chargeOf value ⌝ }
 {
     charge::charge(value)
 }

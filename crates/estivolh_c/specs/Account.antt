@@ -10,25 +10,26 @@ use lib.ListN.{length}
 use Rattle.book.specs.declared.Returned.{Returned}
 use Rattle.book.specs.Books.{freshBook}
 use Rattle.accounts.specs.Batch.{Outcome, batchOf, overlay}
-use Rattle.estivolh.specs.Account.{Cost, costOf, queries}
-use Rattle.estivolh.specs.Account.Cost.{whole, turnedDown}
-use Rattle.estivolh_c.specs.Lent.{kept, Left, left}
+use Rattle.charge.specs.Charging.{Cost, chargeOf}
+use Rattle.charge.specs.Charging.Cost.{whole, turnedDown}
+use Rattle.estivolh.specs.Account.{queries}
+use Rattle.estivolh_c.specs.Lent.{kept, Left}
 use Rattle.estivolh_c.specs.Books.{BookNumbers, bookAt, numbersOf}
 
 -- ---- charge: 1 number
 abbrev pub costLeft : Cost → List ℕ → Left ℕ
-costLeft (whole n) lent = left 0 (overlay (n ∷ []) lent)
-costLeft (turnedDown k) lent = left k lent
+costLeft (whole n) lent = record { answer = 0; slice = overlay (n ∷ []) lent }
+costLeft (turnedDown k) lent = record { answer = k; slice = lent }
 
 abbrev pub chargeCalled : Float → List ℕ → Left ℕ
-chargeCalled v lent = cond (ltb (length lent) 1) (left 2 lent) (costLeft (costOf v) lent)
+chargeCalled v lent = cond (ltb (length lent) 1) (record { answer = 2; slice = lent }) (costLeft (chargeOf v) lent)
 
 -- ---- fresh: a book's numbers
 abbrev pub returnedLeft : Returned → List ℕ → Left ℕ
-returnedLeft r lent = left (r .refusal) (kept (r .refusal) (numbersOf (r .book)) lent)
+returnedLeft r lent = record { answer = r .refusal; slice = kept (r .refusal) (numbersOf (r .book)) lent }
 
 abbrev pub freshCalled : ℕ → List ℕ → Left ℕ
-freshCalled s lent = cond (ltb (length lent) BookNumbers) (left 2 lent) (returnedLeft (freshBook s) lent)
+freshCalled s lent = cond (ltb (length lent) BookNumbers) (record { answer = 2; slice = lent }) (returnedLeft (freshBook s) lent)
 
 -- ---- batch: its number, the book's slice and the answer slice
 pub record BatchLeft : Type 0 where
@@ -36,13 +37,14 @@ pub record BatchLeft : Type 0 where
   pub book : List ℕ
   pub answers : List ℕ
 
+-- for the contracts alone
 abbrev pub batchLeft : ℕ → List ℕ → List ℕ → BatchLeft
 batchLeft n b l = record { answer = n; book = b; answers = l }
 
 -- the book that comes back, in the slice that it came from
 abbrev pub workedLeft : Outcome → List ℕ → BatchLeft
-workedLeft o b = batchLeft (o .refusal) (kept (o .refusal) (numbersOf (o .book)) b) (o .answers)
+workedLeft o b = record { answer = o .refusal; book = kept (o .refusal) (numbersOf (o .book)) b; answers = o .answers }
 
 abbrev pub batchCalled : List ℕ → List ℕ → List ℤ → List ℕ → BatchLeft
 batchCalled b chart es lent =
-    cond (ltb (length b) BookNumbers) (batchLeft 2 b lent) (workedLeft (batchOf queries (bookAt b) chart es lent) b)
+    cond (ltb (length b) BookNumbers) (record { answer = 2; book = b; answers = lent }) (workedLeft (batchOf queries (bookAt b) chart es lent) b)

@@ -20,6 +20,7 @@ pub record Left (A : Type 0) : Type 0 where
   pub answer : ℕ
   pub slice : List A
 
+-- for the contracts alone: no call's definition is stated in its terms
 abbrev pub left : {A : Type 0} → ℕ → List A → Left A
 left n l = record { answer = n; slice = l }
 

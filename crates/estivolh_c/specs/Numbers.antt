@@ -22,23 +22,16 @@ use Rattle.locate.specs.declared.Location.{Location}
 use Rattle.locate.specs.declared.Location.the-variants.{OnVertex, OnEdge, OnFace, OutsideOfConvexHull, NoPlace}
 use Rattle.locate.specs.Location.{locationOf}
 use Rattle.neighbors.specs.Neighbors.{neighborsOf}
-use Rattle.weights.specs.declared.BarycentricWeights.{BarycentricWeights}
-use Rattle.weights.specs.declared.BarycentricWeights.the-variants as B
-use Rattle.weights.specs.Barycentric.{weighTwo, weighThree}
+use Rattle.weights.specs.Barycentric.{Weights, weighTwo, weighThree}
 use Rattle.natural.specs.Natural.{Shares, shares, broken, sharesOf, naturalWeightsOf}
-use Rattle.charge.specs.declared.Charged.{Charged}
-use Rattle.charge.specs.declared.Charged.the-variants as C
-use Rattle.charge.specs.Charging.{offScale, rounded}
+use Rattle.charge.specs.Charging.{Cost, offScale, rounded, chargeOf}
 use Rattle.values.specs.Located.{placeRefusal, barycentricAt}
-use Rattle.values.specs.declared.InterpolatedValue.{InterpolatedValue}
-use Rattle.values.specs.declared.InterpolatedValue.the-variants.{Value, Refused}
-use Rattle.values.specs.Value.{methodOf, barycentricValue, fromShares, naturalValue, valueAt, valueFrom, locatedValue, valueOn}
+use Rattle.values.specs.Value.{Answer, methodOf, barycentricValue, fromShares, naturalValue, valueAt, valueFrom, locatedValue, valueOn}
 use Rattle.query.specs.Location as L
 use Rattle.query.specs.Weights as W
 use Rattle.query.specs.Gradient as G
 use Rattle.query.specs.Natural as N
 use Rattle.query.specs.Value as I
-use Rattle.estivolh.specs.Account as A
 
 abbrev NotZero : ℕ → Type 0
 NotZero n = n ≡ 0 → ⊥
@@ -48,9 +41,9 @@ abbrev pub ToldPlace : L.Located → Type 0
 ToldPlace (L.Located.at l) = Unit {0}
 ToldPlace (L.Located.turnedDown n) = NotZero n
 
-abbrev pub ToldWeights : W.Shares → Type 0
-ToldWeights (W.Shares.shares l) = Unit {0}
-ToldWeights (W.Shares.turnedDown n) = NotZero n
+abbrev pub ToldWeights : Weights → Type 0
+ToldWeights (Weights.weights l) = Unit {0}
+ToldWeights (Weights.turnedDown n) = NotZero n
 
 abbrev pub ToldTally : N.Tally → Type 0
 ToldTally (N.Tally.listed n o) = Unit {0}
@@ -60,13 +53,13 @@ abbrev pub ToldSlope : G.Slope → Type 0
 ToldSlope (G.Slope.slope x y) = Unit {0}
 ToldSlope (G.Slope.turnedDown n) = NotZero n
 
-abbrev pub ToldValue : I.Answer → Type 0
-ToldValue (I.Answer.value v) = Unit {0}
-ToldValue (I.Answer.turnedDown n) = NotZero n
+abbrev pub ToldValue : Answer → Type 0
+ToldValue (Answer.value v) = Unit {0}
+ToldValue (Answer.turnedDown n) = NotZero n
 
-abbrev pub ToldCost : A.Cost → Type 0
-ToldCost (A.Cost.whole n) = Unit {0}
-ToldCost (A.Cost.turnedDown n) = NotZero n
+abbrev pub ToldCost : Cost → Type 0
+ToldCost (Cost.whole n) = Unit {0}
+ToldCost (Cost.turnedDown n) = NotZero n
 
 -- what holds of both holds of the one chosen
 either : {X : Type 0} (P : X → Type 0) (t : Bool) (x y : X) → P x → P y → P (cond t x y)
@@ -111,10 +104,7 @@ pub locate-told : (s : List ℕ) (x y : ℤ) → ToldPlace (L.locateOf s x y)
 locate-told s x y = locate-in (chartIn s) (record { x = x; y = y }) (chart-told s)
 
 -- ---- barycentric weights, and the values by them
-abbrev ToldShares : BarycentricWeights → Type 0
-ToldShares b = ToldWeights (W.weightsSay b)
-
-weights-at : (c : Chart) (q : Place) (l : Location) → ToldShares (barycentricAt c q l)
+weights-at : (c : Chart) (q : Place) (l : Location) → ToldWeights (barycentricAt c q l)
 unfolding weighTwo weighThree
 weights-at c q (OnVertex v) = tt
 weights-at c q (OnEdge h) = tt
@@ -122,11 +112,11 @@ weights-at c q (OnFace f) = tt
 weights-at c q (OutsideOfConvexHull h) = λ e. omega arith
 weights-at c q NoPlace = λ e. omega arith
 
-weights-in : (l : Loaded) (q : Place) → ToldChart l → ToldShares (W.barycentricIn l q)
+weights-in : (l : Loaded) (q : Place) → ToldChart l → ToldWeights (W.barycentricIn l q)
 unfolding W.barycentricOn
 weights-in (loaded vs es fs) q h =
     let c = chartOf vs es fs in
-    either ToldShares (offGrid q) (B.Refused 13) (barycentricAt c q (locationOf c q)) (λ e. omega arith) (weights-at c q (locationOf c q))
+    either ToldWeights (offGrid q) (Weights.turnedDown 13) (barycentricAt c q (locationOf c q)) (λ e. omega arith) (weights-at c q (locationOf c q))
 weights-in (refused n) q h = h
 
 pub barycentric-told : (s : List ℕ) (x y : ℤ) → ToldWeights (W.barycentricOf s x y)
@@ -154,13 +144,13 @@ unfolding N.edgesOn
 edges-in (loaded vs es fs) q lent h =
     let c = chartOf vs es fs in
     let p = locationOf c q in
-    either ToldEdges (offGrid q) (N.edgesLeft (N.Tally.turnedDown 13) lent) (N.edgesFrom (placeRefusal p) c q p lent) (λ e. omega arith) (edges-from (placeRefusal p) c q p lent)
+    either ToldEdges (offGrid q) (N.edgesRefused 13 lent) (N.edgesFrom (placeRefusal p) c q p lent) (λ e. omega arith) (edges-from (placeRefusal p) c q p lent)
 edges-in (refused n) q lent h = h
 
 edges-after : (s : List ℕ) (q : Place) (lent : List ℕ) (h : Head) → headOf s ≡ h → ToldEdges (N.edgesAfter h s q lent)
 edges-after s q lent (H.Refused n) e = head-refusal s n e
 edges-after s q lent (H.Counts v e f) h =
-    either ToldEdges (ltb (length lent) e) (N.edgesLeft (N.Tally.turnedDown 2) lent) (N.edgesIn (loadOf v e f s) q lent) (λ z. omega arith) (edges-in (loadOf v e f s) q lent (body-told v e f s))
+    either ToldEdges (ltb (length lent) e) (N.edgesRefused 2 lent) (N.edgesIn (loadOf v e f s) q lent) (λ z. omega arith) (edges-in (loadOf v e f s) q lent (body-told v e f s))
 
 pub edges-told : (s : List ℕ) (x y : ℤ) (lent : List ℕ) → ToldTally (N.naturalEdgesOf s x y lent .answer)
 edges-told s x y lent = edges-after s (record { x = x; y = y }) lent (headOf s) refl
@@ -183,23 +173,20 @@ unfolding N.sharesOn
 shares-in (loaded vs es fs) q os ws h =
     let c = chartOf vs es fs in
     let p = locationOf c q in
-    either ToldOwners (offGrid q) (N.sharesLeft (N.Tally.turnedDown 13) os ws) (N.sharesFrom (placeRefusal p) c q p os ws) (λ e. omega arith) (shares-from (placeRefusal p) c q p os ws)
+    either ToldOwners (offGrid q) (N.sharesRefused 13 os ws) (N.sharesFrom (placeRefusal p) c q p os ws) (λ e. omega arith) (shares-from (placeRefusal p) c q p os ws)
 shares-in (refused n) q os ws h = h
 
 shares-after : (s : List ℕ) (q : Place) (os : List ℕ) (ws : List Float) (h : Head) → headOf s ≡ h → ToldOwners (N.sharesAfter h s q os ws)
 shares-after s q os ws (H.Refused n) e = head-refusal s n e
 shares-after s q os ws (H.Counts v e f) h =
-    either ToldOwners (ltb (length os) e || ltb (length ws) e) (N.sharesLeft (N.Tally.turnedDown 2) os ws) (N.sharesIn (loadOf v e f s) q os ws) (λ z. omega arith)
+    either ToldOwners (ltb (length os) e || ltb (length ws) e) (N.sharesRefused 2 os ws) (N.sharesIn (loadOf v e f s) q os ws) (λ z. omega arith)
     (shares-in (loadOf v e f s) q os ws (body-told v e f s))
 
 pub shares-told : (s : List ℕ) (x y : ℤ) (os : List ℕ) (ws : List Float) → ToldTally (N.naturalSharesOf s x y os ws .answer)
 shares-told s x y os ws = shares-after s (record { x = x; y = y }) os ws (headOf s) refl
 
 -- ---- values
-abbrev ToldIn : InterpolatedValue → Type 0
-ToldIn v = ToldValue (I.valueSays v)
-
-value-barycentric : (c : Chart) (q : Place) (l : Location) → ToldIn (barycentricValue c (barycentricAt c q l))
+value-barycentric : (c : Chart) (q : Place) (l : Location) → ToldValue (barycentricValue c (barycentricAt c q l))
 unfolding weighTwo weighThree
 value-barycentric c q (OnVertex v) = tt
 value-barycentric c q (OnEdge h) = tt
@@ -207,33 +194,30 @@ value-barycentric c q (OnFace f) = tt
 value-barycentric c q (OutsideOfConvexHull h) = λ e. omega arith
 value-barycentric c q NoPlace = λ e. omega arith
 
-value-shares : (m : ℕ) (c : Chart) (q : Place) (os : List ℕ) (t : Shares) → ToldIn (fromShares m c q os t)
+value-shares : (m : ℕ) (c : Chart) (q : Place) (os : List ℕ) (t : Shares) → ToldValue (fromShares m c q os t)
 value-shares m c q os broken = λ e. omega arith
 value-shares m c q os (shares ws) = tt
 
-value-from : (n m : ℕ) (c : Chart) (q : Place) (l : Location) → ToldIn (valueFrom n m c q l)
+value-from : (n m : ℕ) (c : Chart) (q : Place) (l : Location) → ToldValue (valueFrom n m c q l)
 value-from zero m c q l =
     let list = neighborsOf c q l .edges in
-    either ToldIn (eqb m 1) (barycentricValue c (barycentricAt c q l)) (naturalValue m c q list) (value-barycentric c q l)
+    either ToldValue (eqb m 1) (barycentricValue c (barycentricAt c q l)) (naturalValue m c q list) (value-barycentric c q l)
     (value-shares m c q (map (c .origin) list) (sharesOf c q list))
 value-from (suc n) m c q l = λ e. omega arith
 
-value-in : (l : Loaded) (m : ℕ) (q : Place) → ToldChart l → ToldIn (I.valueIn l m q)
+value-in : (l : Loaded) (m : ℕ) (q : Place) → ToldChart l → ToldValue (I.valueIn l m q)
 unfolding valueOn locatedValue
 value-in (loaded vs es fs) m q h =
     let c = chartOf vs es fs in
     let p = locationOf c q in
-    let located = cond (offGrid q) (Refused 13) (locatedValue m c q) in
-    either ToldIn (eqb m 0) (Refused 12) located (λ e. omega arith)
-    (either ToldIn (offGrid q) (Refused 13) (locatedValue m c q) (λ e. omega arith) (value-from (placeRefusal p) m c q p))
+    let located = cond (offGrid q) (Answer.turnedDown 13) (locatedValue m c q) in
+    either ToldValue (eqb m 0) (Answer.turnedDown 12) located (λ e. omega arith)
+    (either ToldValue (offGrid q) (Answer.turnedDown 13) (locatedValue m c q) (λ e. omega arith) (value-from (placeRefusal p) m c q p))
 value-in (refused n) m q h = h
 
 pub value-told : (s : List ℕ) (m x y : ℤ) → ToldValue (I.interpolateOf s m x y)
 value-told s m x y = value-in (chartIn s) (methodOf m) (record { x = x; y = y }) (chart-told s)
 
 -- ---- charge
-abbrev ToldCharge : Charged → Type 0
-ToldCharge c = ToldCost (A.chargeSays c)
-
-pub charge-told : (v : Float) → ToldCost (A.costOf v)
-charge-told v = either ToldCharge (offScale v) (C.Refused 16) (C.Whole (rounded v)) (λ e. omega arith) tt
+pub charge-told : (v : Float) → ToldCost (chargeOf v)
+charge-told v = either ToldCost (offScale v) (Cost.turnedDown 16) (Cost.whole (rounded v)) (λ e. omega arith) tt

@@ -14,9 +14,8 @@ use Rattle.chart.specs.Chart.{Chart, partner, outer}
 use Rattle.points.specs.declared.Point2.{Point2}
 use Rattle.points.specs.Floats.{f0, _+f_, _/f_}
 use Rattle.points.specs.Points.{pointOf}
-use Rattle.weights.specs.declared.BarycentricWeights.{BarycentricWeights}
-use Rattle.weights.specs.declared.BarycentricWeights.the-variants.{OneVertex, TwoWeights, ThreeWeights, Refused}
-use Rattle.weights.specs.Barycentric.{weighTwo, vertexWeights, edgeWeights}
+use Rattle.weights.specs.Barycentric.{Weights, verticesOf, weightsOf, weighTwo, vertexWeights, edgeWeights}
+use Rattle.weights.specs.Barycentric.Weights.{weights, turnedDown}
 use Rattle.turns.specs.declared.Area.{Area}
 use Rattle.turns.specs.declared.Area.the-variants.{Whole, Broken}
 use Rattle.turns.specs.Turn.{cellCorner, turnFrom, turnOf}
@@ -64,17 +63,13 @@ share-count c q (h ∷ (k ∷ (m ∷ rest))) ws e =
     ∙ zero-add (length list)
 
 -- ---- one and two listed edges: the weights that the barycentric answer of a vertex or an edge carries
-abbrev pub sharesIn : BarycentricWeights → Shares
-sharesIn (OneVertex v w) = shares (w ∷ [])
-sharesIn (TwoWeights v0 w0 v1 w1) = shares (w0 ∷ w1 ∷ [])
-sharesIn (ThreeWeights v0 w0 v1 w1 v2 w2) = shares (w0 ∷ w1 ∷ w2 ∷ [])
-sharesIn (Refused n) = broken
+abbrev pub sharesIn : Weights → Shares
+sharesIn (weights l) = shares (weightsOf l)
+sharesIn (turnedDown n) = broken
 
-abbrev pub verticesIn : BarycentricWeights → List ℕ
-verticesIn (OneVertex v w) = v ∷ []
-verticesIn (TwoWeights v0 w0 v1 w1) = v0 ∷ v1 ∷ []
-verticesIn (ThreeWeights v0 w0 v1 w1 v2 w2) = v0 ∷ v1 ∷ v2 ∷ []
-verticesIn (Refused n) = []
+abbrev pub verticesIn : Weights → List ℕ
+verticesIn (weights l) = verticesOf l
+verticesIn (turnedDown n) = []
 
 -- on a vertex: a half-edge h that leaves it, and one weight 1 by both methods
 pub on-vertex : (c : Chart) (q : Place) (h : ℕ)

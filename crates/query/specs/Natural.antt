@@ -46,41 +46,46 @@ pub record Edges : Type 0 where
   pub answer : Tally
   pub slice : List ℕ
 
-abbrev pub edgesLeft : Tally → List ℕ → Edges
-edgesLeft a s = record { answer = a; slice = s }
+-- a refusal leaves the slice unchanged
+abbrev pub edgesRefused : ℕ → List ℕ → Edges
+edgesRefused n lent = record { answer = turnedDown n; slice = lent }
+
+-- what a call said and left: for the contracts alone, so that no answer is stated in its terms
+abbrev pub edgesLeft : NaturalNeighbors → List ℕ → Edges
+edgesLeft r s = record { answer = neighborsSay r; slice = s }
 
 -- the edges in front, the rest of the slice as it was
 abbrev pub edgesAt : Chart → Place → Location → List ℕ → Edges
 edgesAt c q l lent =
     let n = neighborsOf c q l in
-    edgesLeft (listed (length (n .edges)) (n .opened)) (n .edges ++ drop (length (n .edges)) lent)
+    record { answer = listed (length (n .edges)) (n .opened); slice = n .edges ++ drop (length (n .edges)) lent }
 
--- 14 and 15 leave the slice unchanged
+-- 14: outside the hull; 15: no place found
 abbrev pub edgesFrom : ℕ → Chart → Place → Location → List ℕ → Edges
 edgesFrom zero c q l lent = edgesAt c q l lent
-edgesFrom (suc n) c q l lent = edgesLeft (turnedDown (suc n)) lent
+edgesFrom (suc n) c q l lent = edgesRefused (suc n) lent
 
 -- 13: x or y not -10,000 to 10,000
 unfoldable pub edgesOn : Chart → Place → List ℕ → Edges
 edgesOn c q lent =
-    cond (offGrid q) (edgesLeft (turnedDown 13) lent) (edgesFrom (placeRefusal (locationOf c q)) c q (locationOf c q) lent)
+    cond (offGrid q) (edgesRefused 13 lent) (edgesFrom (placeRefusal (locationOf c q)) c q (locationOf c q) lent)
 
 abbrev pub edgesIn : Loaded → Place → List ℕ → Edges
 edgesIn (loaded vs es fs) q lent = edgesOn (chartOf vs es fs) q lent
-edgesIn (refused n) q lent = edgesLeft (turnedDown n) lent
+edgesIn (refused n) q lent = edgesRefused n lent
 
 -- 2: the slice is shorter than the chart's half-edge count, tested right after 4
 abbrev pub edgesAfter : Head → List ℕ → Place → List ℕ → Edges
-edgesAfter (H.Refused n) s q lent = edgesLeft (turnedDown n) lent
+edgesAfter (H.Refused n) s q lent = edgesRefused n lent
 edgesAfter (H.Counts v e f) s q lent =
-    cond (ltb (length lent) e) (edgesLeft (turnedDown 2) lent) (edgesIn (loadOf v e f s) q lent)
+    cond (ltb (length lent) e) (edgesRefused 2 lent) (edgesIn (loadOf v e f s) q lent)
 
 abbrev pub naturalEdgesOf : List ℕ → ℤ → ℤ → List ℕ → Edges
 naturalEdgesOf s x y lent = edgesAfter (headOf s) s (record { x = x; y = y }) lent
 
 -- ---- behind the head: 2, or the body
 module _ (s : List ℕ) (q : Place) (v e f : ℕ) (h : headOf s ≡ H.Counts v e f) where
-  pub edges-short : (lent : List ℕ) → length lent < e → edgesLeft (turnedDown 2) lent ≡ edgesAfter (headOf s) s q lent
+  pub edges-short : (lent : List ℕ) → length lent < e → edgesRefused 2 lent ≡ edgesAfter (headOf s) s q lent
   edges-short lent l = rw (h, lt-ltb _ _ l)
 
   pub edges-body : (lent : List ℕ) → e ≤ length lent → edgesIn (loadOf v e f s) q lent ≡ edgesAfter (headOf s) s q lent
@@ -91,7 +96,7 @@ pub edges-found : (n : ℕ) (c : Chart) (q : Place) (l : Location) (lent : List 
 edges-found zero c q l lent e = refl
 edges-found (suc n) c q l lent e = let o : ⊥ = omega arith in absurd o
 
-pub edges-turned : (n : ℕ) (c : Chart) (q : Place) (l : Location) (lent : List ℕ) → (n ≡ 0 → ⊥) → edgesFrom n c q l lent ≡ edgesLeft (turnedDown n) lent
+pub edges-turned : (n : ℕ) (c : Chart) (q : Place) (l : Location) (lent : List ℕ) → (n ≡ 0 → ⊥) → edgesFrom n c q l lent ≡ edgesRefused n lent
 edges-turned zero c q l lent e = absurd (e refl)
 edges-turned (suc n) c q l lent e = refl
 
@@ -101,12 +106,17 @@ pub record Shares : Type 0 where
   pub owners : List ℕ
   pub weights : List Float
 
-abbrev pub sharesLeft : Tally → List ℕ → List Float → Shares
-sharesLeft a os ws = record { answer = a; owners = os; weights = ws }
+-- a refusal leaves both unchanged
+abbrev pub sharesRefused : ℕ → List ℕ → List Float → Shares
+sharesRefused n os ws = record { answer = turnedDown n; owners = os; weights = ws }
+
+-- what a call said and left: for the contracts alone
+abbrev pub sharesLeft : NaturalNeighbors → List ℕ → List Float → Shares
+sharesLeft r os ws = record { answer = neighborsSay r; owners = os; weights = ws }
 
 -- vertices and weights in front, the rest of the slices as it was; a broken turn, 15, leaves them unchanged
 abbrev pub sharesSettled : ℕ → ℕ → Outcome → Shares
-sharesSettled n o out = sharesLeft (settledTally (out .refusal) n o) (out .owners) (out .weights)
+sharesSettled n o out = record { answer = settledTally (out .refusal) n o; owners = out .owners; weights = out .weights }
 
 abbrev pub sharesAt : Chart → Place → Location → List ℕ → List Float → Shares
 sharesAt c q l os ws =
@@ -115,30 +125,30 @@ sharesAt c q l os ws =
 
 abbrev pub sharesFrom : ℕ → Chart → Place → Location → List ℕ → List Float → Shares
 sharesFrom zero c q l os ws = sharesAt c q l os ws
-sharesFrom (suc n) c q l os ws = sharesLeft (turnedDown (suc n)) os ws
+sharesFrom (suc n) c q l os ws = sharesRefused (suc n) os ws
 
 unfoldable pub sharesOn : Chart → Place → List ℕ → List Float → Shares
 sharesOn c q os ws =
-    cond (offGrid q) (sharesLeft (turnedDown 13) os ws) (sharesFrom (placeRefusal (locationOf c q)) c q (locationOf c q) os ws)
+    cond (offGrid q) (sharesRefused 13 os ws) (sharesFrom (placeRefusal (locationOf c q)) c q (locationOf c q) os ws)
 
 abbrev pub sharesIn : Loaded → Place → List ℕ → List Float → Shares
 sharesIn (loaded vs es fs) q os ws = sharesOn (chartOf vs es fs) q os ws
-sharesIn (refused n) q os ws = sharesLeft (turnedDown n) os ws
+sharesIn (refused n) q os ws = sharesRefused n os ws
 
 -- 2: one of the slices is shorter than the chart's half-edge count
 abbrev pub sharesAfter : Head → List ℕ → Place → List ℕ → List Float → Shares
-sharesAfter (H.Refused n) s q os ws = sharesLeft (turnedDown n) os ws
+sharesAfter (H.Refused n) s q os ws = sharesRefused n os ws
 sharesAfter (H.Counts v e f) s q os ws =
-    cond (ltb (length os) e || ltb (length ws) e) (sharesLeft (turnedDown 2) os ws) (sharesIn (loadOf v e f s) q os ws)
+    cond (ltb (length os) e || ltb (length ws) e) (sharesRefused 2 os ws) (sharesIn (loadOf v e f s) q os ws)
 
 abbrev pub naturalSharesOf : List ℕ → ℤ → ℤ → List ℕ → List Float → Shares
 naturalSharesOf s x y os ws = sharesAfter (headOf s) s (record { x = x; y = y }) os ws
 
 module _ (s : List ℕ) (q : Place) (v e f : ℕ) (h : headOf s ≡ H.Counts v e f) (os : List ℕ) (ws : List Float) where
-  pub shares-short : length os < e → sharesLeft (turnedDown 2) os ws ≡ sharesAfter (headOf s) s q os ws
+  pub shares-short : length os < e → sharesRefused 2 os ws ≡ sharesAfter (headOf s) s q os ws
   shares-short l = rw (h, lt-ltb _ _ l)
 
-  pub shares-short-2 : e ≤ length os → length ws < e → sharesLeft (turnedDown 2) os ws ≡ sharesAfter (headOf s) s q os ws
+  pub shares-short-2 : e ≤ length os → length ws < e → sharesRefused 2 os ws ≡ sharesAfter (headOf s) s q os ws
   shares-short-2 k l = rw (h, le-ltb _ _ k, lt-ltb _ _ l)
 
   pub shares-body : e ≤ length os → e ≤ length ws → sharesIn (loadOf v e f s) q os ws ≡ sharesAfter (headOf s) s q os ws
@@ -148,7 +158,7 @@ pub shares-found : (n : ℕ) (c : Chart) (q : Place) (l : Location) (os : List �
 shares-found zero c q l os ws e = refl
 shares-found (suc n) c q l os ws e = let o : ⊥ = omega arith in absurd o
 
-pub shares-turned : (n : ℕ) (c : Chart) (q : Place) (l : Location) (os : List ℕ) (ws : List Float) → (n ≡ 0 → ⊥) → sharesFrom n c q l os ws ≡ sharesLeft (turnedDown n) os ws
+pub shares-turned : (n : ℕ) (c : Chart) (q : Place) (l : Location) (os : List ℕ) (ws : List Float) → (n ≡ 0 → ⊥) → sharesFrom n c q l os ws ≡ sharesRefused n os ws
 shares-turned zero c q l os ws e = absurd (e refl)
 shares-turned (suc n) c q l os ws e = refl
 

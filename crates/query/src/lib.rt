@@ -15,6 +15,7 @@ ghost use Rattle.accepted.specs.Accepted.{Accepted};
 ghost use Rattle.locate.specs.Laws.{Holds};
 ghost use Rattle.query.specs.Natural.{neighborsSay, edgesLeft, edgesAt, edgesOn, settledTally, sharesLeft, sharesAt, sharesOn};
 ghost use Rattle.query.specs.Location.{positionSays, placed, locateOn};
+ghost use Rattle.weights.specs.Barycentric.{weightsSay};
 ghost use Rattle.query.specs.Weights.{barycentricOn};
 
 // Where a load lies; the numbers are those of vertices, half-edges and faces. Or the refusal.
@@ -63,7 +64,7 @@ pub fn weights_on(
     q: Place,
 ) -> BarycentricWeights
     requires { ⌜ Accepted (chartOf (now vertices) (now edges) (now faces)) ⌝ }
-    ensures { λ r. ⌜ r ≡ barycentricOn (chartOf (now (vertices .entry)) (now (edges .entry)) (now (faces .entry))) q ⌝ }
+    ensures { λ r. ⌜ weightsSay r ≡ barycentricOn (chartOf (now (vertices .entry)) (now (edges .entry)) (now (faces .entry))) q ⌝ }
 {
     if geometry::off_grid(q) {
         return BarycentricWeights::Refused(13);
@@ -123,7 +124,7 @@ fn edges_at(
     out: &mut [u64],
 ) -> NaturalNeighbors
     requires { ⌜ Accepted (chartOf (now vertices) (now edges) (now faces)) ⌝ ∗ ⌜ OnGrid q ⌝ ∗ ⌜ Holds (chartOf (now vertices) (now edges) (now faces)) q place ⌝ ∗ ⌜ rows (now edges) ≤ length (now out) ⌝ }
-    ensures { λ r. ⌜ edgesLeft (neighborsSay r) (now (out .exit)) ≡ edgesAt (chartOf (now (vertices .entry)) (now (edges .entry)) (now (faces .entry))) q place (now (out .entry)) ⌝ }
+    ensures { λ r. ⌜ edgesLeft r (now (out .exit)) ≡ edgesAt (chartOf (now (vertices .entry)) (now (edges .entry)) (now (faces .entry))) q place (now (out .entry)) ⌝ }
 {
     let mut list = values::list_room();
     let found = neighbors::get_natural_neighbor_edges(vertices, edges, faces, q, place, &mut list);
@@ -141,7 +142,7 @@ pub fn edges_on(
     out: &mut [u64],
 ) -> NaturalNeighbors
     requires { ⌜ Accepted (chartOf (now vertices) (now edges) (now faces)) ⌝ ∗ ⌜ rows (now edges) ≤ length (now out) ⌝ }
-    ensures { λ r. ⌜ edgesLeft (neighborsSay r) (now (out .exit)) ≡ edgesOn (chartOf (now (vertices .entry)) (now (edges .entry)) (now (faces .entry))) q (now (out .entry)) ⌝ }
+    ensures { λ r. ⌜ edgesLeft r (now (out .exit)) ≡ edgesOn (chartOf (now (vertices .entry)) (now (edges .entry)) (now (faces .entry))) q (now (out .entry)) ⌝ }
 {
     if geometry::off_grid(q) {
         return NaturalNeighbors::Refused(13);
@@ -175,7 +176,7 @@ fn shares_at(
     weights: &mut [f64],
 ) -> NaturalNeighbors
     requires { ⌜ Accepted (chartOf (now vertices) (now edges) (now faces)) ⌝ ∗ ⌜ OnGrid q ⌝ ∗ ⌜ Holds (chartOf (now vertices) (now edges) (now faces)) q place ⌝ ∗ ⌜ rows (now edges) ≤ length (now owners) ⌝ ∗ ⌜ rows (now edges) ≤ length (now weights) ⌝ }
-    ensures { λ r. ⌜ sharesLeft (neighborsSay r) (now (owners .exit)) (now (weights .exit)) ≡ sharesAt (chartOf (now (vertices .entry)) (now (edges .entry)) (now (faces .entry))) q place (now (owners .entry)) (now (weights .entry)) ⌝ }
+    ensures { λ r. ⌜ sharesLeft r (now (owners .exit)) (now (weights .exit)) ≡ sharesAt (chartOf (now (vertices .entry)) (now (edges .entry)) (now (faces .entry))) q place (now (owners .entry)) (now (weights .entry)) ⌝ }
 {
     let mut list = values::list_room();
     let found = neighbors::get_natural_neighbor_edges(vertices, edges, faces, q, place, &mut list);
@@ -194,7 +195,7 @@ pub fn shares_on(
     weights: &mut [f64],
 ) -> NaturalNeighbors
     requires { ⌜ Accepted (chartOf (now vertices) (now edges) (now faces)) ⌝ ∗ ⌜ rows (now edges) ≤ length (now owners) ⌝ ∗ ⌜ rows (now edges) ≤ length (now weights) ⌝ }
-    ensures { λ r. ⌜ sharesLeft (neighborsSay r) (now (owners .exit)) (now (weights .exit)) ≡ sharesOn (chartOf (now (vertices .entry)) (now (edges .entry)) (now (faces .entry))) q (now (owners .entry)) (now (weights .entry)) ⌝ }
+    ensures { λ r. ⌜ sharesLeft r (now (owners .exit)) (now (weights .exit)) ≡ sharesOn (chartOf (now (vertices .entry)) (now (edges .entry)) (now (faces .entry))) q (now (owners .entry)) (now (weights .entry)) ⌝ }
 {
     if geometry::off_grid(q) {
         return NaturalNeighbors::Refused(13);

@@ -21,15 +21,15 @@ use Rattle.reading.specs.Reading.{countsOf, headOf, bodyOf, loadOf, chartIn}
 use Rattle.locate.specs.declared.Location.the-variants.{OnVertex, OnEdge, OnFace, OutsideOfConvexHull}
 use Rattle.locate.specs.Location.{locationOf}
 use Rattle.neighbors.specs.Neighbors.{edgeNeighbors, neighborsOf}
-use Rattle.weights.specs.Barycentric.{twoPointInterpolation, barycentricInterpolation, weighTwo, weighThree}
+use Rattle.weights.specs.Barycentric.{Weighted, twoPointInterpolation, barycentricInterpolation, weighTwo, weighThree}
+use Rattle.weights.specs.Barycentric.Weights.{weights}
+use Rattle.charge.specs.Charging.{chargeOf}
+use Rattle.charge.specs.Charging.{Cost as C}
 use Rattle.query.specs.Location.{locateOn, locateOf}
 use Rattle.query.specs.Location.Located.{at, turnedDown}
-use Rattle.query.specs.Weights.{Weighted, barycentricOn, barycentricOf}
-use Rattle.query.specs.Weights.Shares.{shares}
-use Rattle.query.specs.Natural.{edgesLeft, edgesOn, naturalEdgesOf}
+use Rattle.query.specs.Weights.{barycentricOn, barycentricOf}
+use Rattle.query.specs.Natural.{edgesOn, naturalEdgesOf}
 use Rattle.query.specs.Natural.Tally.{listed}
-use Rattle.estivolh.specs.Account.{costOf}
-use Rattle.estivolh.specs.Account.{Cost as C}
 use Rattle.rim.specs.TriangleA.{fileA, verticesA, edgesA, facesA}
 
 -- a vertex with its weight, by the weight's bits
@@ -53,17 +53,17 @@ pub record Rows : Type 0 where
   pub on-circle : inCircle chartA (place (pos 10) (pos 10)) 1 ≡ false
   pub in-circle : inCircle chartA (place (pos 9) (pos 9)) 1 ≡ true
   -- the charge of 149.5, of -0.5 and of 1,000,000.5
-  pub half-up : costOf (ofBits binary64 0x4062_b000_0000_0000) ≡ C.whole 150
-  pub lowest : costOf (ofBits binary64 0xbfe0_0000_0000_0000) ≡ C.whole 0
-  pub too-high : costOf (ofBits binary64 0x412e_8481_0000_0000) ≡ C.turnedDown 16
+  pub half-up : chargeOf (ofBits binary64 0x4062_b000_0000_0000) ≡ C.whole 150
+  pub lowest : chargeOf (ofBits binary64 0xbfe0_0000_0000_0000) ≡ C.whole 0
+  pub too-high : chargeOf (ofBits binary64 0x412e_8481_0000_0000) ≡ C.turnedDown 16
   -- a point on the line beyond an edge is not on it
   pub past-the-end : locateOf fileA (pos 15) (pos 0) ≡ at (OutsideOfConvexHull 3)
   -- corners are not read from the adjacent edge: prev comes first
-  pub corners : barycentricOf fileA (pos 2) (pos 3) ≡ shares (with-bits 2 4599075939470750515 ∷ with-bits 0 4602678819172646912 ∷ with-bits 1 4596373779694328216 ∷ [])
+  pub corners : barycentricOf fileA (pos 2) (pos 3) ≡ weights (with-bits 2 4599075939470750515 ∷ with-bits 0 4602678819172646912 ∷ with-bits 1 4596373779694328216 ∷ [])
   -- the hull-edge pair is not reversed: the edge, then its partner; no face is opened, and the rest of the slice is as it was
-  pub hull-pair : naturalEdgesOf fileA (pos 5) (pos 0) (9 ∷ 9 ∷ 9 ∷ 9 ∷ 9 ∷ 9 ∷ []) ≡ edgesLeft (listed 2 0) (0 ∷ 1 ∷ 9 ∷ 9 ∷ 9 ∷ 9 ∷ [])
+  pub hull-pair : naturalEdgesOf fileA (pos 5) (pos 0) (9 ∷ 9 ∷ 9 ∷ 9 ∷ 9 ∷ 9 ∷ []) ≡ record { answer = listed 2 0; slice = 0 ∷ 1 ∷ 9 ∷ 9 ∷ 9 ∷ 9 ∷ [] }
   -- on an edge its origin comes first
-  pub ends : barycentricOf fileA (pos 5) (pos 5) ≡ shares (with-bits 1 4602678819172646912 ∷ with-bits 2 4602678819172646912 ∷ [])
+  pub ends : barycentricOf fileA (pos 5) (pos 5) ≡ weights (with-bits 1 4602678819172646912 ∷ with-bits 2 4602678819172646912 ∷ [])
   -- the grid's end is on the grid, what follows is off it
   pub last : locateOf fileA (pos 10000) (pos 0) ≡ at (OutsideOfConvexHull 3)
   pub off : locateOf fileA (pos 10001) (pos 0) ≡ turnedDown 13

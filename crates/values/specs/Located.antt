@@ -4,9 +4,8 @@ use Rattle.geometry.specs.declared.Place.{Place}
 use Rattle.chart.specs.Chart.{Chart}
 use Rattle.locate.specs.declared.Location.{Location}
 use Rattle.locate.specs.declared.Location.the-variants.{OnVertex, OnEdge, OnFace, OutsideOfConvexHull, NoPlace}
-use Rattle.weights.specs.declared.BarycentricWeights.{BarycentricWeights}
-use Rattle.weights.specs.declared.BarycentricWeights.the-variants.{Refused}
-use Rattle.weights.specs.Barycentric.{vertexWeights, edgeWeights, faceWeights}
+use Rattle.weights.specs.Barycentric.{Weights, vertexWeights, edgeWeights, faceWeights}
+use Rattle.weights.specs.Barycentric.Weights.{turnedDown}
 
 -- 14: outside the hull; 15: no place found
 abbrev pub placeRefusal : Location → ℕ
@@ -17,9 +16,9 @@ placeRefusal (OutsideOfConvexHull h) = 14
 placeRefusal NoPlace = 15
 
 -- by the location; 14: outside the hull; 15: no place found
-abbrev pub barycentricAt : Chart → Place → Location → BarycentricWeights
+abbrev pub barycentricAt : Chart → Place → Location → Weights
 barycentricAt c q (OnVertex v) = vertexWeights v
 barycentricAt c q (OnEdge h) = edgeWeights c q h
 barycentricAt c q (OnFace f) = faceWeights c q f
-barycentricAt c q (OutsideOfConvexHull h) = Refused 14
-barycentricAt c q NoPlace = Refused 15
+barycentricAt c q (OutsideOfConvexHull h) = turnedDown 14
+barycentricAt c q NoPlace = turnedDown 15

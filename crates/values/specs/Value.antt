@@ -18,9 +18,7 @@ use Rattle.locate.specs.declared.Location.the-variants.{OnVertex, OnEdge, OnFac
 use Rattle.locate.specs.Location.{locationOf}
 use Rattle.locate.specs.Laws.{Holds}
 use Rattle.neighbors.specs.Neighbors.{neighborsOf}
-use Rattle.weights.specs.declared.BarycentricWeights.{BarycentricWeights}
-use Rattle.weights.specs.declared.BarycentricWeights.the-variants as W
-use Rattle.weights.specs.Barycentric.{weighTwo, weighThree}
+use Rattle.weights.specs.Barycentric.{Weights, verticesOf, weightsOf, weighTwo, weighThree}
 use Rattle.natural.specs.Natural.{Shares, shares, broken, sharesOf, told}
 use Rattle.natural.specs.Facts.{verticesIn}
 use Rattle.interpolate.specs.Values.{Owners, valueSum, valueBlend}
@@ -32,58 +30,66 @@ use Rattle.values.specs.declared.InterpolatedValue.the-variants.{Value, 
 abbrev pub methodOf : ℤ → ℕ
 methodOf z = cond (eqZ z (pos 1)) 1 (cond (eqZ z (pos 2)) 2 (cond (eqZ z (pos 3)) 3 0))
 
+-- the value, or the number of the refusal
+pub data Answer : Type 0 where
+  value : Float → Answer
+  turnedDown : ℕ → Answer
+
+-- what each case of the call's answer says, in 01's numbers and values
+abbrev pub valueSays : InterpolatedValue → Answer
+valueSays (Value v) = value v
+valueSays (Refused n) = turnedDown n
+
 -- method 1: the values by the barycentric weights
-abbrev pub barycentricValue : Chart → BarycentricWeights → InterpolatedValue
-barycentricValue c (W.OneVertex u a) = Value (valueSum c (u ∷ []) (a ∷ []))
-barycentricValue c (W.TwoWeights u a v b) = Value (valueSum c (u ∷ v ∷ []) (a ∷ b ∷ []))
-barycentricValue c (W.ThreeWeights u a v b t d) = Value (valueSum c (u ∷ v ∷ t ∷ []) (a ∷ b ∷ d ∷ []))
-barycentricValue c (W.Refused n) = Refused n
+abbrev pub barycentricValue : Chart → Weights → Answer
+barycentricValue c (Weights.weights l) = value (valueSum c (verticesOf l) (weightsOf l))
+barycentricValue c (Weights.turnedDown n) = turnedDown n
 
 -- methods 2 and 3: the natural weights, the gradients too
 abbrev pub byMethod : ℕ → Chart → Place → List ℕ → List Float → Float
 byMethod m c q os ws = cond (eqb m 2) (valueSum c os ws) (valueBlend c q os ws)
 
 -- a broken turn is 15
-abbrev pub fromShares : ℕ → Chart → Place → List ℕ → Shares → InterpolatedValue
-fromShares m c q os broken = Refused 15
-fromShares m c q os (shares ws) = Value (byMethod m c q os ws)
+abbrev pub fromShares : ℕ → Chart → Place → List ℕ → Shares → Answer
+fromShares m c q os broken = turnedDown 15
+fromShares m c q os (shares ws) = value (byMethod m c q os ws)
 
 -- methods 2 and 3, from the list of natural neighbour edges
-abbrev pub naturalValue : ℕ → Chart → Place → List ℕ → InterpolatedValue
+abbrev pub naturalValue : ℕ → Chart → Place → List ℕ → Answer
 naturalValue m c q list = fromShares m c q (map (c .origin) list) (sharesOf c q list)
 
 -- at a location that was found
-abbrev pub valueAt : ℕ → Chart → Place → Location → InterpolatedValue
+abbrev pub valueAt : ℕ → Chart → Place → Location → Answer
 valueAt m c q l = cond (eqb m 1) (barycentricValue c (barycentricAt c q l)) (naturalValue m c q (neighborsOf c q l .edges))
 
 -- 14: outside the hull; 15: no place found
-abbrev pub valueFrom : ℕ → ℕ → Chart → Place → Location → InterpolatedValue
+abbrev pub valueFrom : ℕ → ℕ → Chart → Place → Location → Answer
 valueFrom zero m c q l = valueAt m c q l
-valueFrom (suc n) m c q l = Refused (suc n)
+valueFrom (suc n) m c q l = turnedDown (suc n)
 
 -- where the load lies
-unfoldable pub locatedValue : ℕ → Chart → Place → InterpolatedValue
+unfoldable pub locatedValue : ℕ → Chart → Place → Answer
 locatedValue m c q = valueFrom (placeRefusal (locationOf c q)) m c q (locationOf c q)
 
 -- 12: method unknown; 13: x or y not -10,000 to 10,000
-unfoldable pub valueOn : ℕ → Chart → Place → InterpolatedValue
-valueOn m c q = cond (eqb m 0) (Refused 12) (cond (offGrid q) (Refused 13) (locatedValue m c q))
+unfoldable pub valueOn : ℕ → Chart → Place → Answer
+valueOn m c q = cond (eqb m 0) (turnedDown 12) (cond (offGrid q) (turnedDown 13) (locatedValue m c q))
 
 -- ---- laws: a location that was found, and one that was not
 pub value-found : (n m : ℕ) (c : Chart) (q : Place) (l : Location) → n ≡ 0 → valueFrom n m c q l ≡ valueAt m c q l
 value-found zero m c q l e = refl
 value-found (suc n) m c q l e = let o : ⊥ = omega arith in absurd o
 
-pub value-turned : (n m : ℕ) (c : Chart) (q : Place) (l : Location) → (n ≡ 0 → ⊥) → valueFrom n m c q l ≡ Refused n
+pub value-turned : (n m : ℕ) (c : Chart) (q : Place) (l : Location) → (n ≡ 0 → ⊥) → valueFrom n m c q l ≡ turnedDown n
 value-turned zero m c q l e = absurd (e refl)
 value-turned (suc n) m c q l e = refl
 
 -- ---- laws: the refusals of a value are at most 15
-abbrev pub UpTo15 : InterpolatedValue → Type 0
-UpTo15 (Value v) = Unit {0}
-UpTo15 (Refused k) = k ≤ 15
+abbrev pub UpTo15 : Answer → Type 0
+UpTo15 (value v) = Unit {0}
+UpTo15 (turnedDown k) = k ≤ 15
 
-cond-up-to-15 : (b : Bool) (x y : InterpolatedValue) → UpTo15 x → UpTo15 y → UpTo15 (cond b x y)
+cond-up-to-15 : (b : Bool) (x y : Answer) → UpTo15 x → UpTo15 y → UpTo15 (cond b x y)
 cond-up-to-15 true x y f g = f
 cond-up-to-15 false x y f g = g
 
@@ -114,8 +120,8 @@ from-up-to-15 m c q NoPlace = omega arith
 pub value-up-to-15 : (m : ℕ) (c : Chart) (q : Place) → UpTo15 (valueOn m c q)
 unfolding valueOn locatedValue
 value-up-to-15 m c q =
-    cond-up-to-15 (eqb m 0) (Refused 12) (cond (offGrid q) (Refused 13) (locatedValue m c q)) (omega arith)
-    (cond-up-to-15 (offGrid q) (Refused 13) (locatedValue m c q) (omega arith) (from-up-to-15 m c q (locationOf c q)))
+    cond-up-to-15 (eqb m 0) (turnedDown 12) (cond (offGrid q) (turnedDown 13) (locatedValue m c q)) (omega arith)
+    (cond-up-to-15 (offGrid q) (turnedDown 13) (locatedValue m c q) (omega arith) (from-up-to-15 m c q (locationOf c q)))
 
 -- by a known method, on the grid, the value is that of the location
 pub value-located : (m : ℕ) (c : Chart) (q : Place) → eqb m 0 ≡ false → offGrid q ≡ false → valueOn m c q ≡ locatedValue m c q
@@ -153,16 +159,16 @@ module _ (m : ℕ) (c : Chart) (q : Place) (list list' : List ℕ) (same : list'
   told-list : told r (take (length list') xs) ≡ sharesOf c q list
   told-list = e ∙ ap (sharesOf c q) same
 
-  pub shares-broken : not r ≡ true → naturalValue m c q list ≡ Refused 15
+  pub shares-broken : not r ≡ true → naturalValue m c q list ≡ turnedDown 15
   shares-broken f = pick r f told-list
     where
-      pick : (b : Bool) → not b ≡ true → told b (take (length list') xs) ≡ sharesOf c q list → naturalValue m c q list ≡ Refused 15
+      pick : (b : Bool) → not b ≡ true → told b (take (length list') xs) ≡ sharesOf c q list → naturalValue m c q list ≡ turnedDown 15
       pick true g d = absurd (false≢true g)
       pick false g d = rw (← d)
 
-  pub shares-whole : (n : ℕ) (os : List ℕ) → not r ≡ false → length list' ≡ n → os ≡ map (c .origin) list' → naturalValue m c q list ≡ Value (byMethod m c q os (take n xs))
+  pub shares-whole : (n : ℕ) (os : List ℕ) → not r ≡ false → length list' ≡ n → os ≡ map (c .origin) list' → naturalValue m c q list ≡ value (byMethod m c q os (take n xs))
   shares-whole n os f l o = rw (← l, o ∙ ap (map (c .origin)) same) (pick r f told-list)
     where
-      pick : (b : Bool) → not b ≡ false → told b (take (length list') xs) ≡ sharesOf c q list → naturalValue m c q list ≡ Value (byMethod m c q (map (c .origin) list) (take (length list') xs))
+      pick : (b : Bool) → not b ≡ false → told b (take (length list') xs) ≡ sharesOf c q list → naturalValue m c q list ≡ value (byMethod m c q (map (c .origin) list) (take (length list') xs))
       pick true g d = rw (← d)
       pick false g d = absurd (false≢true (sym g))

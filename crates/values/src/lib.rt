@@ -16,11 +16,12 @@ ghost use Rattle.neighbors.specs.Neighbors.{neighborsOf};
 ghost use Rattle.lines.specs.Lines.{Drawn};
 ghost use Rattle.gradient.specs.Gradient.{Valued};
 ghost use Rattle.gradient.specs.Estimated.{Estimated};
+ghost use Rattle.weights.specs.Barycentric.{weightsSay};
 ghost use Rattle.natural.specs.Facts.{verticesIn};
 ghost use Rattle.interpolate.specs.Values.{Owners};
 ghost use Rattle.values.specs.Located.{placeRefusal, barycentricAt};
 ghost use Rattle.values.specs.Room.{RoomFor};
-ghost use Rattle.values.specs.Value.{methodOf, byMethod, barycentricValue, naturalValue, valueAt, locatedValue, valueOn};
+ghost use Rattle.values.specs.Value.{methodOf, valueSays, byMethod, barycentricValue, naturalValue, valueAt, locatedValue, valueOn};
 
 // On checked tables: the weights at a location that was found there.
 pub fn weights_at(
@@ -31,7 +32,7 @@ pub fn weights_at(
     place: Location,
 ) -> BarycentricWeights
     requires { ⌜ InRange (chartOf (now vertices) (now edges) (now faces)) ⌝ ∗ ⌜ OnGrid q ⌝ ∗ ⌜ place ≡ locationOf (chartOf (now vertices) (now edges) (now faces)) q ⌝ }
-    ensures { λ r. ⌜ r ≡ barycentricAt (chartOf (now (vertices .entry)) (now (edges .entry)) (now (faces .entry))) q place ⌝ }
+    ensures { λ r. ⌜ weightsSay r ≡ barycentricAt (chartOf (now (vertices .entry)) (now (edges .entry)) (now (faces .entry))) q place ⌝ }
 {
     match place {
         Location::OnVertex(v) => weights::vertex_weights(v),
@@ -91,8 +92,8 @@ fn weighed_value(
     faces: &[usize],
     w: BarycentricWeights,
 ) -> InterpolatedValue
-    requires { ⌜ Valued (chartOf (now vertices) (now edges) (now faces)) ⌝ ∗ ⌜ Owners (chartOf (now vertices) (now edges) (now faces)) (verticesIn w) ⌝ }
-    ensures { λ r. ⌜ r ≡ barycentricValue (chartOf (now (vertices .entry)) (now (edges .entry)) (now (faces .entry))) w ⌝ }
+    requires { ⌜ Valued (chartOf (now vertices) (now edges) (now faces)) ⌝ ∗ ⌜ Owners (chartOf (now vertices) (now edges) (now faces)) (verticesIn (weightsSay w)) ⌝ }
+    ensures { λ r. ⌜ valueSays r ≡ barycentricValue (chartOf (now (vertices .entry)) (now (edges .entry)) (now (faces .entry))) (weightsSay w) ⌝ }
 {
     match w {
         BarycentricWeights::OneVertex(u, a) => {
@@ -154,7 +155,7 @@ fn natural_value(
 ) -> InterpolatedValue
     requires { ⌜ Accepted (chartOf (now vertices) (now edges) (now faces)) ⌝ ∗ ⌜ OnGrid q ⌝ ∗ ⌜ Holds (chartOf (now vertices) (now edges) (now faces)) q place ⌝ }
     requires { ⌜ RoomFor (now list) (now xs) (now ys) ⌝ ∗ ⌜ Estimated (chartOf (now vertices) (now edges) (now faces)) (now gradients) (rows (now vertices)) ⌝ }
-    ensures { λ r. ⌜ r ≡ naturalValue method (chartOf (now (vertices .entry)) (now (edges .entry)) (now (faces .entry))) q (neighborsOf (chartOf (now (vertices .entry)) (now (edges .entry)) (now (faces .entry))) q place .edges) ⌝ }
+    ensures { λ r. ⌜ valueSays r ≡ naturalValue method (chartOf (now (vertices .entry)) (now (edges .entry)) (now (faces .entry))) q (neighborsOf (chartOf (now (vertices .entry)) (now (edges .entry)) (now (faces .entry))) q place .edges) ⌝ }
 {
     let found = neighbors::get_natural_neighbor_edges(vertices, edges, faces, q, place, list);
     let n = found.count;
@@ -190,7 +191,7 @@ fn value_at(
 ) -> InterpolatedValue
     requires { ⌜ Accepted (chartOf (now vertices) (now edges) (now faces)) ⌝ ∗ ⌜ OnGrid q ⌝ ∗ ⌜ place ≡ locationOf (chartOf (now vertices) (now edges) (now faces)) q ⌝ }
     requires { ⌜ RoomFor (now list) (now xs) (now ys) ⌝ ∗ ⌜ Estimated (chartOf (now vertices) (now edges) (now faces)) (now gradients) (rows (now vertices)) ⌝ }
-    ensures { λ r. ⌜ r ≡ valueAt method (chartOf (now (vertices .entry)) (now (edges .entry)) (now (faces .entry))) q place ⌝ }
+    ensures { λ r. ⌜ valueSays r ≡ valueAt method (chartOf (now (vertices .entry)) (now (edges .entry)) (now (faces .entry))) q place ⌝ }
 {
     if method == 1 {
         let w = weights_at(vertices, edges, faces, q, place);
@@ -225,7 +226,7 @@ pub fn located_value(
 ) -> InterpolatedValue
     requires { ⌜ Accepted (chartOf (now vertices) (now edges) (now faces)) ⌝ ∗ ⌜ OnGrid q ⌝ }
     requires { ⌜ RoomFor (now list) (now xs) (now ys) ⌝ ∗ ⌜ Estimated (chartOf (now vertices) (now edges) (now faces)) (now gradients) (rows (now vertices)) ⌝ ∗ ⌜ Drawn (chartOf (now vertices) (now edges) (now faces)) (now lines) (rows (now edges) / 2) ⌝ }
-    ensures { λ r. ⌜ r ≡ locatedValue method (chartOf (now (vertices .entry)) (now (edges .entry)) (now (faces .entry))) q ⌝ }
+    ensures { λ r. ⌜ valueSays r ≡ locatedValue method (chartOf (now (vertices .entry)) (now (edges .entry)) (now (faces .entry))) q ⌝ }
 {
     let place = locate::locate_by(vertices, edges, faces, lines, q);
     let refusal = place_refusal(place);
@@ -259,7 +260,7 @@ pub fn value_on(
 ) -> InterpolatedValue
     requires { ⌜ Accepted (chartOf (now vertices) (now edges) (now faces)) ⌝ }
     requires { ⌜ RoomFor (now list) (now xs) (now ys) ⌝ }
-    ensures { λ r. ⌜ r ≡ valueOn method (chartOf (now (vertices .entry)) (now (edges .entry)) (now (faces .entry))) q ⌝ }
+    ensures { λ r. ⌜ valueSays r ≡ valueOn method (chartOf (now (vertices .entry)) (now (edges .entry)) (now (faces .entry))) q ⌝ }
 {
     if method == 0 {
         return InterpolatedValue::Refused(12);

@@ -7,7 +7,7 @@ ghost use lib.ListN.{length};
 ghost use Rattle.geometry.specs.Plane.{OnGrid};
 ghost use Rattle.chart.specs.Tables.{rows};
 ghost use Rattle.chart.specs.Chart.{chartOf, InRange};
-ghost use Rattle.weights.specs.Barycentric.{twoPointInterpolation, barycentricInterpolation, weighTwo, weighThree, vertexWeights, edgeWeights, faceWeights};
+ghost use Rattle.weights.specs.Barycentric.{twoPointInterpolation, barycentricInterpolation, weightsSay, weighTwo, weighThree, vertexWeights, edgeWeights, faceWeights};
 
 // The vertices in the Rust's order, each with its weight after it; or the number of a refusal.
 pub enum BarycentricWeights {
@@ -73,7 +73,7 @@ fn weigh_two(
     v1: usize,
 ) -> BarycentricWeights
     requires { ⌜ InRange (chartOf (now vertices) (now edges) (now faces)) ⌝ ∗ ⌜ OnGrid q ⌝ ∗ ⌜ v0 < rows (now vertices) ⌝ ∗ ⌜ v1 < rows (now vertices) ⌝ }
-    ensures { λ r. ⌜ r ≡ weighTwo (chartOf (now (vertices .entry)) (now (edges .entry)) (now (faces .entry))) q v0 v1 ⌝ }
+    ensures { λ r. ⌜ weightsSay r ≡ weighTwo (chartOf (now (vertices .entry)) (now (edges .entry)) (now (faces .entry))) q v0 v1 ⌝ }
 {
     let p0 = points::position(vertices, edges, faces, v0);
     let p1 = points::position(vertices, edges, faces, v1);
@@ -92,7 +92,7 @@ fn weigh_three(
     v2: usize,
 ) -> BarycentricWeights
     requires { ⌜ InRange (chartOf (now vertices) (now edges) (now faces)) ⌝ ∗ ⌜ OnGrid q ⌝ ∗ ⌜ v0 < rows (now vertices) ⌝ ∗ ⌜ v1 < rows (now vertices) ⌝ ∗ ⌜ v2 < rows (now vertices) ⌝ }
-    ensures { λ r. ⌜ r ≡ weighThree (chartOf (now (vertices .entry)) (now (edges .entry)) (now (faces .entry))) q v0 v1 v2 ⌝ }
+    ensures { λ r. ⌜ weightsSay r ≡ weighThree (chartOf (now (vertices .entry)) (now (edges .entry)) (now (faces .entry))) q v0 v1 v2 ⌝ }
 {
     let p0 = points::position(vertices, edges, faces, v0);
     let p1 = points::position(vertices, edges, faces, v1);
@@ -103,7 +103,7 @@ fn weigh_three(
 
 // On vertex v.
 pub fn vertex_weights(v: usize) -> BarycentricWeights
-    ensures { λ r. ⌜ r ≡ vertexWeights v ⌝ }
+    ensures { λ r. ⌜ weightsSay r ≡ vertexWeights v ⌝ }
 {
     BarycentricWeights::OneVertex(v as u64, 1.0)
 }
@@ -117,7 +117,7 @@ pub fn edge_weights(
     h: usize,
 ) -> BarycentricWeights
     requires { ⌜ InRange (chartOf (now vertices) (now edges) (now faces)) ⌝ ∗ ⌜ OnGrid q ⌝ ∗ ⌜ h < rows (now edges) ⌝ }
-    ensures { λ r. ⌜ r ≡ edgeWeights (chartOf (now (vertices .entry)) (now (edges .entry)) (now (faces .entry))) q h ⌝ }
+    ensures { λ r. ⌜ weightsSay r ≡ edgeWeights (chartOf (now (vertices .entry)) (now (edges .entry)) (now (faces .entry))) q h ⌝ }
 {
     let v0 = chart::origin_of(edges, h);
     let v1 = chart::origin_of(edges, chart::partner_of(h));
@@ -133,7 +133,7 @@ pub fn face_weights(
     f: usize,
 ) -> BarycentricWeights
     requires { ⌜ InRange (chartOf (now vertices) (now edges) (now faces)) ⌝ ∗ ⌜ OnGrid q ⌝ ∗ ⌜ f < length (now faces) ⌝ }
-    ensures { λ r. ⌜ r ≡ faceWeights (chartOf (now (vertices .entry)) (now (edges .entry)) (now (faces .entry))) q f ⌝ }
+    ensures { λ r. ⌜ weightsSay r ≡ faceWeights (chartOf (now (vertices .entry)) (now (edges .entry)) (now (faces .entry))) q f ⌝ }
 {
     let e1 = chart::adjacent_of(faces, f);
     let v0 = chart::origin_of(edges, chart::prev_of(edges, e1));

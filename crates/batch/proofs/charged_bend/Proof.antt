@@ -1,6 +1,6 @@
 -- `batch::charged_bend` meets its contract: by the charge. Assumes nothing.
 use mathlib.Core.Path.{sym, ap, _∙_}
-use Rattle.charge.specs.Charging.{chargeCase}
+use Rattle.charge.specs.Charging.{chargeCase, chargeSays}
 use Rattle.entries.specs.declared.Ruling.the-variants.{Bend, Refused}
 use borrow.Author.Needs.{needs}
 use Rattle.batch.proofs.charged_bend.Statement.{statement}
@@ -16,10 +16,10 @@ enum-known-k : tie.Need-enum-known-k
 enum-known-k c = search needs
 
 returns : tie.Need-returns
-returns c = let i = c .before .before .before .before .args .section in sym (ap (chargeCase (Bend i) Refused) (sym (c .before .before .before .charge .ensures) ∙ c .before .n .given .1))
+returns c = let i = c .before .before .before .before .args .section in sym (ap (chargeCase (Bend i) Refused) (sym (c .before .before .before .charge .ensures) ∙ ap chargeSays (c .before .n .given .1)))
 
 returns-2 : tie.Need-returns-2
-returns-2 c = let i = c .before .before .before .before .args .section in sym (ap (chargeCase (Bend i) Refused) (sym (c .before .before .before .charge .ensures) ∙ c .before .k .given .1))
+returns-2 c = let i = c .before .before .before .before .args .section in sym (ap (chargeCase (Bend i) Refused) (sym (c .before .before .before .charge .ensures) ∙ ap chargeSays (c .before .k .given .1)))
 
 pub charged-bend-spec : {M : Type 1} → statement M
 charged-bend-spec =

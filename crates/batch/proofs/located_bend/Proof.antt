@@ -1,5 +1,6 @@
 -- `batch::located_bend` meets its contract: by the value, or the location's refusal. Assumes nothing.
 use mathlib.Core.Path.{sym, ap, _∙_}
+use Rattle.values.specs.Value.{valueSays}
 use Rattle.accounts.specs.Rulings.{bendRuling}
 use borrow.Author.Needs.{needs}
 use Rattle.batch.proofs.located_bend.Statement.{statement}
@@ -28,7 +29,7 @@ same-length-3 c = search needs
 
 returns : tie.Need-returns
 returns c =
-    c .charged-bend .ensures ∙ sym (ap (bendRuling (c .before .before .before .before .before .before .before .before .before .before .before .before .before .before .before .before .before .before .before .before .args .section)) (sym (c .before .before .before .before .before .before .before .before .before .before .located-value .ensures) ∙ c .before .before .v .given .1))
+    c .charged-bend .ensures ∙ sym (ap (bendRuling (c .before .before .before .before .before .before .before .before .before .before .before .before .before .before .before .before .before .before .before .before .args .section)) (sym (c .before .before .before .before .before .before .before .before .before .before .located-value .ensures) ∙ ap valueSays (c .before .before .v .given .1)))
 
 same-length-4 : tie.Need-same-length-4
 same-length-4 c = search needs
@@ -41,7 +42,7 @@ same-length-6 c = search needs
 
 returns-2 : tie.Need-returns-2
 returns-2 c =
-    sym (ap (bendRuling (c .before .before .before .before .before .before .before .before .before .before .before .before .before .before .before .before .before .before .before .args .section)) (sym (c .before .before .before .before .before .before .before .before .before .located-value .ensures) ∙ c .before .k .given .1))
+    sym (ap (bendRuling (c .before .before .before .before .before .before .before .before .before .before .before .before .before .before .before .before .before .before .before .args .section)) (sym (c .before .before .before .before .before .before .before .before .before .located-value .ensures) ∙ ap valueSays (c .before .k .given .1)))
 
 pub located-bend-spec : {M : Type 1} → statement M
 located-bend-spec =

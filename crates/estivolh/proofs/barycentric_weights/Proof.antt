@@ -3,7 +3,7 @@ use mathlib.Core.Path.{sym, ap, _∙_}
 use mir.Facts.{toZ-ofZ}
 use Rattle.checks.specs.Checks.{Loaded}
 use Rattle.reading.specs.Laws.{head-counted, chart-head, chart-body}
-use Rattle.query.specs.Weights.{weightsSay, barycentricIn}
+use Rattle.query.specs.Weights.{barycentricIn}
 use borrow.Author.Needs.{needs}
 use Rattle.estivolh.proofs.barycentric_weights.Statement.{statement}
 use Rattle.estivolh.proofs.barycentric_weights.Tie as tie
@@ -23,14 +23,14 @@ weights-in-requires c κs = head-counted _ _ _ _ (sym (c .before .before .before
 returns : tie.Need-returns
 returns c =
     let a = c .before .before .before .before .before .args in
-    sym (ap (λ (l : Loaded). weightsSay (barycentricIn l (record { x = a .x; y = a .y }))) (chart-head _ _ (sym (c .before .before .before .read-head .ensures) ∙ c .before .head .given .1)))
+    sym (ap (λ (l : Loaded). barycentricIn l (record { x = a .x; y = a .y })) (chart-head _ _ (sym (c .before .before .before .read-head .ensures) ∙ c .before .head .given .1)))
 
 returns-2 : tie.Need-returns-2
 returns-2 c =
     let s = c .before .before .before .before .before .before in
     let a = s .args in
-    ap weightsSay (simp (toZ-ofZ (s .fits .x), toZ-ofZ (s .fits .y)) at (c .weights-in .ensures))
-    ∙ sym (ap (λ (l : Loaded). weightsSay (barycentricIn l (record { x = a .x; y = a .y }))) (chart-body _ _ _ _ (sym (c .before .before .before .before .read-head .ensures) ∙ c .before .before .head2 .given .1)))
+    (simp (toZ-ofZ (s .fits .x), toZ-ofZ (s .fits .y)) at (c .weights-in .ensures))
+    ∙ sym (ap (λ (l : Loaded). barycentricIn l (record { x = a .x; y = a .y })) (chart-body _ _ _ _ (sym (c .before .before .before .before .read-head .ensures) ∙ c .before .before .head2 .given .1)))
 
 pub barycentric-weights-spec : {M : Type 1} → statement M
 barycentric-weights-spec =

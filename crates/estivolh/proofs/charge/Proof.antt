@@ -1,6 +1,4 @@
 -- `estivolh::charge` meets its contract: it is the charge. Assumes nothing.
-use mathlib.Core.Path.{ap}
-use Rattle.estivolh.specs.Account.{chargeSays}
 use borrow.Author.Needs.{needs}
 use Rattle.estivolh.proofs.charge.Statement.{statement}
 use Rattle.estivolh.proofs.charge.Tie as tie
@@ -9,7 +7,7 @@ charge-requires : tie.Need-charge-requires
 charge-requires c κs = search needs
 
 returns : tie.Need-returns
-returns c = ap chargeSays (c .charge .ensures)
+returns c = c .charge .ensures
 
 pub charge-spec : {M : Type 1} → statement M
 charge-spec = tie.close (tie.spec charge-requires returns)

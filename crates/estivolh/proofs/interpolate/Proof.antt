@@ -4,7 +4,7 @@ use mir.Facts.{toZ-ofZ}
 use Rattle.checks.specs.Checks.{Loaded}
 use Rattle.reading.specs.Laws.{head-counted, chart-head, chart-body}
 use Rattle.values.specs.Value.{methodOf}
-use Rattle.query.specs.Value.{valueSays, valueIn}
+use Rattle.query.specs.Value.{valueIn}
 use borrow.Author.Needs.{needs}
 use Rattle.estivolh.proofs.interpolate.Statement.{statement}
 use Rattle.estivolh.proofs.interpolate.Tie as tie
@@ -27,15 +27,15 @@ value-in-requires c κs = head-counted _ _ _ _ (sym (c .before .before .before .
 returns : tie.Need-returns
 returns c =
     let a = c .before .before .before .before .before .args in
-    sym (ap (λ (l : Loaded). valueSays (valueIn l (methodOf (a .method)) (record { x = a .x; y = a .y }))) (chart-head _ _ (sym (c .before .before .before .read-head .ensures) ∙ c .before .head .given .1)))
+    sym (ap (λ (l : Loaded). valueIn l (methodOf (a .method)) (record { x = a .x; y = a .y })) (chart-head _ _ (sym (c .before .before .before .read-head .ensures) ∙ c .before .head .given .1)))
 
 returns-2 : tie.Need-returns-2
 returns-2 c =
     let s = c .before .before .before .before .before .before .before in
     let a = s .args in
     let m = simp (toZ-ofZ (s .fits .method)) at (c .before .method-number .ensures) in
-    ap valueSays (simp (toZ-ofZ (s .fits .x), toZ-ofZ (s .fits .y), m) at (c .value-in .ensures))
-    ∙ sym (ap (λ (l : Loaded). valueSays (valueIn l (methodOf (a .method)) (record { x = a .x; y = a .y }))) (chart-body _ _ _ _ (sym (c .before .before .before .before .before .read-head .ensures) ∙ c .before .before .before .head2 .given .1)))
+    (simp (toZ-ofZ (s .fits .x), toZ-ofZ (s .fits .y), m) at (c .value-in .ensures))
+    ∙ sym (ap (λ (l : Loaded). valueIn l (methodOf (a .method)) (record { x = a .x; y = a .y })) (chart-body _ _ _ _ (sym (c .before .before .before .before .before .read-head .ensures) ∙ c .before .before .before .head2 .given .1)))
 
 pub interpolate-spec : {M : Type 1} → statement M
 interpolate-spec =

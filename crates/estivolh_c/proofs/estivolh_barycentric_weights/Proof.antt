@@ -5,7 +5,7 @@ use lib.Dec.{ltb}
 use lib.ListN.{length}
 use mir.Facts.{toZ-ofZ}
 use borrow.Author.Tests.{lt-ltb, le-ltb}
-use Rattle.query.specs.Weights.{Shares}
+use Rattle.weights.specs.Barycentric.{Weights}
 use Rattle.estivolh_c.specs.Queries.{barycentricLeft}
 use borrow.Author.Needs.{needs}
 use Rattle.estivolh_c.proofs.estivolh_barycentric_weights.Statement.{statement}
@@ -47,7 +47,7 @@ returns-4 c =
     let s = c .before .before .before .before .before .before .before .before .before .before .before .before .before .before .before .before .before .before in
     let a = s .args in
     rw (le-ltb _ _ (c .before .before .before .before .before .before .before .before .before .before .before .before .before .if1 .left), le-ltb _ _ (c .before .before .before .before .before .before .before .before .before .before .before .before .if2 .left), le-ltb _ _ (c .before .before .before .before .before .before .before .before .before .before .before .if3 .left))
-    (c .before .before .before .before .before .before .put-barycentric .ensures ∙ ap (λ (l : Shares). barycentricLeft l (a .vertices .now) (a .weights .now) (a .found .now)) (simp (toZ-ofZ (s .fits .x), toZ-ofZ (s .fits .y)) at (c .before .before .before .before .before .before .before .before .before .before .barycentric-weights .ensures)))
+    (c .before .before .before .before .before .before .put-barycentric .ensures ∙ ap (λ (l : Weights). barycentricLeft l (a .vertices .now) (a .weights .now) (a .found .now)) (simp (toZ-ofZ (s .fits .x), toZ-ofZ (s .fits .y)) at (c .before .before .before .before .before .before .before .before .before .before .barycentric-weights .ensures)))
 
 pub estivolh-barycentric-weights-spec : {M : Type 1} → statement M
 estivolh-barycentric-weights-spec =

@@ -1,6 +1,6 @@
 -- `estivolh_c::estivolh_charge` meets its contract: 2 for a short slice, else what the public call says. Assumes nothing.
 use mathlib.Core.Path.{ap, _∙_}
-use Rattle.estivolh.specs.Account.{Cost}
+use Rattle.charge.specs.Charging.{Cost}
 use Rattle.estivolh_c.specs.Lent.{short, enough}
 use Rattle.estivolh_c.specs.Account.{costLeft}
 use borrow.Author.Needs.{needs}

@@ -1,7 +1,7 @@
 -- `estivolh_c::estivolh_interpolate` meets its contract: 2 for a short slice, else what the public call says. Assumes nothing.
 use mathlib.Core.Path.{ap, _∙_}
 use mir.Facts.{toZ-ofZ}
-use Rattle.query.specs.Value.{Answer}
+use Rattle.values.specs.Value.{Answer}
 use Rattle.estivolh_c.specs.Lent.{short, enough}
 use Rattle.estivolh_c.specs.Queries.{valueLeft}
 use borrow.Author.Needs.{needs}

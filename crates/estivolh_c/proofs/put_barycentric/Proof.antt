@@ -1,7 +1,7 @@
 -- `estivolh_c::put_barycentric` meets its contract. Assumes nothing.
 use mathlib.Core.Path.{sym, ap, _∙_}
 use Rattle.weights.specs.declared.BarycentricWeights.{BarycentricWeights}
-use Rattle.query.specs.Weights.{weightsSay}
+use Rattle.weights.specs.Barycentric.{weightsSay}
 use Rattle.estivolh_c.specs.Queries.{barycentricLeft}
 use borrow.Author.Needs.{needs}
 use Rattle.estivolh_c.proofs.put_barycentric.Statement.{statement}

@@ -1,7 +1,7 @@
 -- `estivolh_c::put_charge` meets its contract. Assumes nothing.
 use mathlib.Core.Path.{sym, ap, _∙_}
 use Rattle.charge.specs.declared.Charged.{Charged}
-use Rattle.estivolh.specs.Account.{chargeSays}
+use Rattle.charge.specs.Charging.{chargeSays}
 use Rattle.estivolh_c.specs.Lent.{left}
 use Rattle.estivolh_c.specs.Account.{costLeft}
 use borrow.Author.Needs.{needs}

@@ -1,7 +1,7 @@
 -- `estivolh_c::put_value` meets its contract. Assumes nothing.
 use mathlib.Core.Path.{sym, ap, _∙_}
 use Rattle.values.specs.declared.InterpolatedValue.{InterpolatedValue}
-use Rattle.query.specs.Value.{valueSays}
+use Rattle.values.specs.Value.{valueSays}
 use Rattle.estivolh_c.specs.Lent.{left}
 use Rattle.estivolh_c.specs.Queries.{valueLeft}
 use borrow.Author.Needs.{needs}

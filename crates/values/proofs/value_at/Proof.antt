@@ -3,7 +3,7 @@ use mathlib.Core.Path.{sym, ap, subst, _∙_}
 use borrow.Author.Tests.{eq-eqb, ne-eqb}
 use Rattle.chart.specs.Chart.{chartOf}
 use Rattle.locate.specs.Laws.{located}
-use Rattle.weights.specs.declared.BarycentricWeights.{BarycentricWeights}
+use Rattle.weights.specs.Barycentric.{Weights}
 use Rattle.natural.specs.Facts.{verticesIn}
 use Rattle.interpolate.specs.Values.{Owners}
 use Rattle.values.specs.Value.{barycentricValue, barycentric-owners}
@@ -18,7 +18,7 @@ weighed-value-requires : tie.Need-weighed-value-requires
 weighed-value-requires c κs =
     let s = c .before .before .before .before .before .before .before .before in
     let a = s .args in
-    (s .pre .0 .values, subst (λ (x : BarycentricWeights). Owners (chartOf (a .vertices .now) (a .edges .now) (a .faces .now)) (verticesIn x)) (sym (c .weights-at .ensures)) (barycentric-owners (chartOf (a .vertices .now) (a .edges .now) (a .faces .now)) (a .q) (a .place) (s .pre .0 .range) (located _ _ _ (s .pre .1 .1 .0))))
+    (s .pre .0 .values, subst (λ (x : Weights). Owners (chartOf (a .vertices .now) (a .edges .now) (a .faces .now)) (verticesIn x)) (sym (c .weights-at .ensures)) (barycentric-owners (chartOf (a .vertices .now) (a .edges .now) (a .faces .now)) (a .q) (a .place) (s .pre .0 .range) (located _ _ _ (s .pre .1 .1 .0))))
 
 returns : tie.Need-returns
 returns c =

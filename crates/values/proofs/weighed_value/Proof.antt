@@ -3,6 +3,7 @@ use mathlib.Core.Path.{subst}
 use native.Mathlib.Omega.{arith}
 use Rattle.chart.specs.Chart.{chartOf}
 use Rattle.weights.specs.declared.BarycentricWeights.{BarycentricWeights}
+use Rattle.weights.specs.Barycentric.{weightsSay}
 use Rattle.natural.specs.Facts.{verticesIn}
 use Rattle.interpolate.specs.Values.{Owners, sumFrom}
 use borrow.Author.Needs.{needs}
@@ -16,7 +17,7 @@ value-requires : tie.Need-value-requires
 value-requires c κs =
     let s = c .before .before .before .before .before in
     let a = s .args in
-    let o = subst (λ (x : BarycentricWeights). Owners (chartOf (a .vertices .now) (a .edges .now) (a .faces .now)) (verticesIn x)) (c .before .w .given .1) (s .pre .1) in
+    let o = subst (λ (x : BarycentricWeights). Owners (chartOf (a .vertices .now) (a .edges .now) (a .faces .now)) (verticesIn (weightsSay x))) (c .before .w .given .1) (s .pre .1) in
     let l = o 0 (omega arith) in
     (l, s .pre .0 _ l)
 
@@ -27,7 +28,7 @@ value-requires-2 : tie.Need-value-requires-2
 value-requires-2 c κs =
     let s = c .before .before .before .before .before in
     let a = s .args in
-    let o = subst (λ (x : BarycentricWeights). Owners (chartOf (a .vertices .now) (a .edges .now) (a .faces .now)) (verticesIn x)) (c .before .w2 .given .1) (s .pre .1) in
+    let o = subst (λ (x : BarycentricWeights). Owners (chartOf (a .vertices .now) (a .edges .now) (a .faces .now)) (verticesIn (weightsSay x))) (c .before .w2 .given .1) (s .pre .1) in
     let l = o 0 (omega arith) in
     (l, s .pre .0 _ l)
 
@@ -35,7 +36,7 @@ value-requires-3 : tie.Need-value-requires-3
 value-requires-3 c κs =
     let s = c .before .before .before .before .before .before in
     let a = s .args in
-    let o = subst (λ (x : BarycentricWeights). Owners (chartOf (a .vertices .now) (a .edges .now) (a .faces .now)) (verticesIn x)) (c .before .before .w2 .given .1) (s .pre .1) in
+    let o = subst (λ (x : BarycentricWeights). Owners (chartOf (a .vertices .now) (a .edges .now) (a .faces .now)) (verticesIn (weightsSay x))) (c .before .before .w2 .given .1) (s .pre .1) in
     let l = o 1 (omega arith) in
     (l, s .pre .0 _ l)
 
@@ -46,7 +47,7 @@ value-requires-4 : tie.Need-value-requires-4
 value-requires-4 c κs =
     let s = c .before .before .before .before .before in
     let a = s .args in
-    let o = subst (λ (x : BarycentricWeights). Owners (chartOf (a .vertices .now) (a .edges .now) (a .faces .now)) (verticesIn x)) (c .before .w3 .given .1) (s .pre .1) in
+    let o = subst (λ (x : BarycentricWeights). Owners (chartOf (a .vertices .now) (a .edges .now) (a .faces .now)) (verticesIn (weightsSay x))) (c .before .w3 .given .1) (s .pre .1) in
     let l = o 0 (omega arith) in
     (l, s .pre .0 _ l)
 
@@ -54,7 +55,7 @@ value-requires-5 : tie.Need-value-requires-5
 value-requires-5 c κs =
     let s = c .before .before .before .before .before .before in
     let a = s .args in
-    let o = subst (λ (x : BarycentricWeights). Owners (chartOf (a .vertices .now) (a .edges .now) (a .faces .now)) (verticesIn x)) (c .before .before .w3 .given .1) (s .pre .1) in
+    let o = subst (λ (x : BarycentricWeights). Owners (chartOf (a .vertices .now) (a .edges .now) (a .faces .now)) (verticesIn (weightsSay x))) (c .before .before .w3 .given .1) (s .pre .1) in
     let l = o 1 (omega arith) in
     (l, s .pre .0 _ l)
 
@@ -62,7 +63,7 @@ value-requires-6 : tie.Need-value-requires-6
 value-requires-6 c κs =
     let s = c .before .before .before .before .before .before .before in
     let a = s .args in
-    let o = subst (λ (x : BarycentricWeights). Owners (chartOf (a .vertices .now) (a .edges .now) (a .faces .now)) (verticesIn x)) (c .before .before .before .w3 .given .1) (s .pre .1) in
+    let o = subst (λ (x : BarycentricWeights). Owners (chartOf (a .vertices .now) (a .edges .now) (a .faces .now)) (verticesIn (weightsSay x))) (c .before .before .before .w3 .given .1) (s .pre .1) in
     let l = o 2 (omega arith) in
     (l, s .pre .0 _ l)
 
