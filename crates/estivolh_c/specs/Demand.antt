@@ -21,9 +21,10 @@ use Rattle.accounts.specs.Tally.{tally}
 use Rattle.accounts.specs.Demand.{Call, fresh, joined, OneChart, MadeCall, Made, callsOf, Demand3Made}
 use Rattle.accounts.specs.Demand3.{demand3-made}
 use Rattle.estivolh.specs.Account.{queries}
-use Rattle.estivolh_c.specs.Lent.{kept, Left, left, enough}
-use Rattle.estivolh_c.specs.Books.{BookNumbers, bookAt, numbersOf, numbers-long, read-back}
-use Rattle.estivolh_c.specs.Account.{returnedLeft, freshCalled, BatchLeft, batchLeft, workedLeft, batchCalled}
+use Rattle.slices.specs.Lent.{kept, Left, left, enough}
+use Rattle.slices.specs.Books.{BookNumbers, bookAt, numbersOf, numbers-long, read-back}
+use Rattle.slices.specs.Answers.{returnedLeft}
+use Rattle.estivolh_c.specs.Account.{freshCalled, BatchLeft, batchLeft, workedLeft, batchCalled}
 
 -- ---- the arrays of a book have 16 elements
 abbrev Long : Book → Type 0

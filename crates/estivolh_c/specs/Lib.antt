@@ -1,5 +1,3 @@
-pub mod Lent
-pub mod Books
 pub mod Queries
 pub mod Account
 pub mod Demand

@@ -6,7 +6,7 @@ use lib.ListN.{length}
 use mir.Facts.{toZ-ofZ}
 use borrow.Author.Tests.{lt-ltb, le-ltb}
 use Rattle.weights.specs.Barycentric.{Weights}
-use Rattle.estivolh_c.specs.Queries.{barycentricLeft}
+use Rattle.slices.specs.Answers.{barycentricLeft}
 use borrow.Author.Needs.{needs}
 use Rattle.estivolh_c.proofs.estivolh_barycentric_weights.Statement.{statement}
 use Rattle.estivolh_c.proofs.estivolh_barycentric_weights.Tie as tie

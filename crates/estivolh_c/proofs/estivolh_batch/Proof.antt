@@ -5,7 +5,7 @@ use borrow.Author.Needs.{needs}
 use Rattle.book.specs.declared.Book.{Book}
 use Rattle.accounts.specs.Batch.{Outcome, batchOf}
 use Rattle.estivolh.specs.Account.{queries}
-use Rattle.estivolh_c.specs.Lent.{Left, short, enough}
+use Rattle.slices.specs.Lent.{Left, short, enough}
 use Rattle.estivolh_c.specs.Account.{batchLeft, workedLeft}
 use Rattle.estivolh_c.proofs.estivolh_batch.Statement.{statement}
 use Rattle.estivolh_c.proofs.estivolh_batch.Tie as tie

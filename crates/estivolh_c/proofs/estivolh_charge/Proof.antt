@@ -1,8 +1,8 @@
 -- `estivolh_c::estivolh_charge` meets its contract: 2 for a short slice, else what the public call says. Assumes nothing.
 use mathlib.Core.Path.{ap, _∙_}
 use Rattle.charge.specs.Charging.{Cost}
-use Rattle.estivolh_c.specs.Lent.{short, enough}
-use Rattle.estivolh_c.specs.Account.{costLeft}
+use Rattle.slices.specs.Lent.{short, enough}
+use Rattle.slices.specs.Answers.{costLeft}
 use borrow.Author.Needs.{needs}
 use Rattle.estivolh_c.proofs.estivolh_charge.Statement.{statement}
 use Rattle.estivolh_c.proofs.estivolh_charge.Tie as tie

@@ -1,8 +1,8 @@
 -- `estivolh_c::estivolh_estimate_gradient` meets its contract: 2 for a short slice, else what the public call says. Assumes nothing.
 use mathlib.Core.Path.{ap, _∙_}
 use Rattle.query.specs.Gradient.{Slope}
-use Rattle.estivolh_c.specs.Lent.{short, enough}
-use Rattle.estivolh_c.specs.Queries.{slopeLeft}
+use Rattle.slices.specs.Lent.{short, enough}
+use Rattle.slices.specs.Answers.{slopeLeft}
 use borrow.Author.Needs.{needs}
 use Rattle.estivolh_c.proofs.estivolh_estimate_gradient.Statement.{statement}
 use Rattle.estivolh_c.proofs.estivolh_estimate_gradient.Tie as tie

@@ -1,8 +1,8 @@
 -- `estivolh_c::estivolh_fresh` meets its contract: 2 for a short slice, else what the public call says. Assumes nothing.
 use mathlib.Core.Path.{ap, _∙_}
 use Rattle.book.specs.declared.Returned.{Returned}
-use Rattle.estivolh_c.specs.Lent.{short, enough}
-use Rattle.estivolh_c.specs.Account.{returnedLeft}
+use Rattle.slices.specs.Lent.{short, enough}
+use Rattle.slices.specs.Answers.{returnedLeft}
 use borrow.Author.Needs.{needs}
 use Rattle.estivolh_c.proofs.estivolh_fresh.Statement.{statement}
 use Rattle.estivolh_c.proofs.estivolh_fresh.Tie as tie

@@ -2,8 +2,8 @@
 use mathlib.Core.Path.{ap, _∙_}
 use mir.Facts.{toZ-ofZ}
 use Rattle.values.specs.Value.{Answer}
-use Rattle.estivolh_c.specs.Lent.{short, enough}
-use Rattle.estivolh_c.specs.Queries.{valueLeft}
+use Rattle.slices.specs.Lent.{short, enough}
+use Rattle.slices.specs.Answers.{valueLeft}
 use borrow.Author.Needs.{needs}
 use Rattle.estivolh_c.proofs.estivolh_interpolate.Statement.{statement}
 use Rattle.estivolh_c.proofs.estivolh_interpolate.Tie as tie

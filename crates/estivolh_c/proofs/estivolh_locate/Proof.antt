@@ -2,8 +2,8 @@
 use mathlib.Core.Path.{ap, _∙_}
 use mir.Facts.{toZ-ofZ}
 use Rattle.query.specs.Location.{Located}
-use Rattle.estivolh_c.specs.Lent.{short, enough}
-use Rattle.estivolh_c.specs.Queries.{locatedLeft}
+use Rattle.slices.specs.Lent.{short, enough}
+use Rattle.slices.specs.Answers.{locatedLeft}
 use borrow.Author.Needs.{needs}
 use Rattle.estivolh_c.proofs.estivolh_locate.Statement.{statement}
 use Rattle.estivolh_c.proofs.estivolh_locate.Tie as tie

@@ -3,7 +3,7 @@ use mathlib.Core.Path.{ap, _∙_}
 use Prim.Native.Nat.{ℕ}
 use mir.Facts.{toZ-ofZ}
 use Rattle.query.specs.Natural.{Edges}
-use Rattle.estivolh_c.specs.Lent.{Left, short, enough}
+use Rattle.slices.specs.Lent.{Left, short, enough}
 use Rattle.estivolh_c.specs.Queries.{edgesLeft, edgesTold}
 use borrow.Author.Needs.{needs}
 use Rattle.estivolh_c.proofs.estivolh_natural_neighbor_edges.Statement.{statement}

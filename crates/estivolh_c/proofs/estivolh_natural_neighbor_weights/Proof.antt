@@ -3,8 +3,9 @@ use mathlib.Core.Path.{ap, _∙_}
 use Prim.Native.Nat.{ℕ}
 use mir.Facts.{toZ-ofZ}
 use Rattle.query.specs.Natural.{Shares}
-use Rattle.estivolh_c.specs.Lent.{Left, short, enough}
-use Rattle.estivolh_c.specs.Queries.{weightsLeft, sharesTold}
+use Rattle.slices.specs.Lent.{Left, short, enough}
+use Rattle.slices.specs.Answers.{weightsLeft}
+use Rattle.estivolh_c.specs.Queries.{sharesTold}
 use borrow.Author.Needs.{needs}
 use Rattle.estivolh_c.proofs.estivolh_natural_neighbor_weights.Statement.{statement}
 use Rattle.estivolh_c.proofs.estivolh_natural_neighbor_weights.Tie as tie

@@ -1,14 +1,14 @@
--- `estivolh_c::put_weights` meets its contract. Assumes nothing.
+-- `slices::put_weights` meets its contract. Assumes nothing.
 use mathlib.Core.Path.{ap, _∙_}
 use mathlib.Core.List.{List}
 use Prim.Native.Nat.{ℕ}
 use lib.Ieee.{Float}
 use Rattle.accounts.specs.Batch.{overlay}
-use Rattle.estivolh_c.specs.Lent.{paste-front}
-use Rattle.estivolh_c.specs.Queries.{weightsLeft}
+use Rattle.slices.specs.Lent.{paste-front}
+use Rattle.slices.specs.Answers.{weightsLeft}
 use borrow.Author.Needs.{needs}
-use Rattle.estivolh_c.proofs.put_weights.Statement.{statement}
-use Rattle.estivolh_c.proofs.put_weights.Tie as tie
+use Rattle.slices.proofs.put_weights.Statement.{statement}
+use Rattle.slices.proofs.put_weights.Tie as tie
 
 put-requires : tie.Need-put-requires
 put-requires c κs = search needs

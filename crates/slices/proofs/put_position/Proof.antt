@@ -1,12 +1,12 @@
--- `estivolh_c::put_position` meets its contract. Assumes nothing.
+-- `slices::put_position` meets its contract. Assumes nothing.
 use mathlib.Core.Path.{sym, ap, _∙_}
 use Rattle.query.specs.declared.PositionInTriangulation.{PositionInTriangulation}
 use Rattle.query.specs.Location.{positionSays}
-use Rattle.estivolh_c.specs.Lent.{left}
-use Rattle.estivolh_c.specs.Queries.{locatedLeft}
+use Rattle.slices.specs.Lent.{left}
+use Rattle.slices.specs.Answers.{locatedLeft}
 use borrow.Author.Needs.{needs}
-use Rattle.estivolh_c.proofs.put_position.Statement.{statement}
-use Rattle.estivolh_c.proofs.put_position.Tie as tie
+use Rattle.slices.proofs.put_position.Statement.{statement}
+use Rattle.slices.proofs.put_position.Tie as tie
 
 enum-known-found : tie.Need-enum-known-found
 enum-known-found c = search needs

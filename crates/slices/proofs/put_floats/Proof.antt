@@ -1,4 +1,4 @@
--- `estivolh_c::put_floats` meets its contract. The loop's invariant: the elements passed are copied, the others as they were. Assumes nothing.
+-- `slices::put_floats` meets its contract. The loop's invariant: the elements passed are copied, the others as they were. Assumes nothing.
 use Prim.Native.Nat.{ℕ, _+_, _≤_, _-_}
 use mathlib.Core.Path.{_≡_, refl, ap, _∙_}
 use mathlib.Core.List.{List, _++_}
@@ -8,8 +8,8 @@ use lib.Ieee.{Float, nan}
 use lib.Seq.{length-take-le, take-all}
 use Rattle.natural.specs.Arrays.{written, first-next}
 use borrow.Author.Needs.{needs}
-use Rattle.estivolh_c.proofs.put_floats.Statement.{statement}
-use Rattle.estivolh_c.proofs.put_floats.Tie as tie
+use Rattle.slices.proofs.put_floats.Statement.{statement}
+use Rattle.slices.proofs.put_floats.Tie as tie
 
 abbrev Inv-loop : tie.InvT-loop
 Inv-loop list out₀ i₀ out i = (i ≤ length list) × (length out ≡ length out₀) × (out ≡ take i list ++ drop i out₀)

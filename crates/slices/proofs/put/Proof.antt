@@ -1,4 +1,4 @@
--- `estivolh_c::put` meets its contract: so far the first i elements of `list` are pasted in. Assumes nothing.
+-- `slices::put` meets its contract: so far the first i elements of `list` are pasted in. Assumes nothing.
 use Prim.Native.Nat.{_≤_, _<_, _+_, _-_}
 use mathlib.Core.Path.{_≡_, refl}
 use native.Mathlib.Numerals.{add-one}
@@ -6,8 +6,8 @@ use native.Mathlib.Omega.{arith}
 use lib.ListN.{length, length-set}
 use lib.Seq.{paste, paste-zero, paste-suc}
 use borrow.Author.Needs.{needs}
-use Rattle.estivolh_c.proofs.put.Statement.{statement}
-use Rattle.estivolh_c.proofs.put.Tie as tie
+use Rattle.slices.proofs.put.Statement.{statement}
+use Rattle.slices.proofs.put.Tie as tie
 
 abbrev Inv-loop : tie.InvT-loop
 Inv-loop list at out₀ i₀ out i = (i ≤ length list) × (length out ≡ length out₀) × (out ≡ paste out₀ at list i)

@@ -1,10 +1,10 @@
--- `estivolh_c::put_returned` meets its contract. Assumes nothing.
+-- `slices::put_returned` meets its contract. Assumes nothing.
 use mathlib.Core.Path.{sym, ap}
 use borrow.Author.Needs.{needs}
-use Rattle.estivolh_c.specs.Lent.{left, kept-refused}
-use Rattle.estivolh_c.specs.Books.{numbersOf}
-use Rattle.estivolh_c.proofs.put_returned.Statement.{statement}
-use Rattle.estivolh_c.proofs.put_returned.Tie as tie
+use Rattle.slices.specs.Lent.{left, kept-refused}
+use Rattle.slices.specs.Books.{numbersOf}
+use Rattle.slices.proofs.put_returned.Statement.{statement}
+use Rattle.slices.proofs.put_returned.Tie as tie
 
 returns : tie.Need-returns
 returns c =

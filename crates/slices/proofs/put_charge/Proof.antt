@@ -1,12 +1,12 @@
--- `estivolh_c::put_charge` meets its contract. Assumes nothing.
+-- `slices::put_charge` meets its contract. Assumes nothing.
 use mathlib.Core.Path.{sym, ap, _∙_}
 use Rattle.charge.specs.declared.Charged.{Charged}
 use Rattle.charge.specs.Charging.{chargeSays}
-use Rattle.estivolh_c.specs.Lent.{left}
-use Rattle.estivolh_c.specs.Account.{costLeft}
+use Rattle.slices.specs.Lent.{left}
+use Rattle.slices.specs.Answers.{costLeft}
 use borrow.Author.Needs.{needs}
-use Rattle.estivolh_c.proofs.put_charge.Statement.{statement}
-use Rattle.estivolh_c.proofs.put_charge.Tie as tie
+use Rattle.slices.proofs.put_charge.Statement.{statement}
+use Rattle.slices.proofs.put_charge.Tie as tie
 
 enum-known-answer : tie.Need-enum-known-answer
 enum-known-answer c = search needs

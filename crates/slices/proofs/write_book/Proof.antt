@@ -1,4 +1,4 @@
--- `estivolh_c::write_book` meets its contract: four writes, each right after the one before. Assumes nothing.
+-- `slices::write_book` meets its contract: four writes, each right after the one before. Assumes nothing.
 use mathlib.Core.Path.{_≡_, ap, _∙_}
 use mathlib.Core.List.{List, [], _∷_}
 use Prim.Native.Nat.{ℕ}
@@ -6,10 +6,10 @@ use native.Mathlib.Omega.{arith}
 use lib.ListN.{length}
 use lib.Seq.{paste}
 use Rattle.book.specs.Books.{SectionMax}
-use Rattle.estivolh_c.specs.Books.{WearAt, BendsAt, RetiredAt, book-written}
+use Rattle.slices.specs.Books.{WearAt, BendsAt, RetiredAt, book-written}
 use borrow.Author.Needs.{needs}
-use Rattle.estivolh_c.proofs.write_book.Statement.{statement}
-use Rattle.estivolh_c.proofs.write_book.Tie as tie
+use Rattle.slices.proofs.write_book.Statement.{statement}
+use Rattle.slices.proofs.write_book.Tie as tie
 
 slice-aggregate-put : tie.Need-slice-aggregate-put
 slice-aggregate-put c = search needs

@@ -9,7 +9,7 @@ use lib.Seq.{paste, length-take-le, take-all, take-at, drop-at, getD-at, drop-dr
 use Rattle.book.specs.declared.Book.{Book}
 use Rattle.book.specs.Books.{SectionMax}
 use Rattle.accounts.specs.Batch.{overlay}
-use Rattle.estivolh_c.specs.Lent.{paste-after}
+use Rattle.slices.specs.Lent.{paste-after}
 
 abbrev pub WearAt : ℕ
 WearAt = 1

@@ -1,11 +1,11 @@
--- `estivolh_c::put_barycentric` meets its contract. Assumes nothing.
+-- `slices::put_barycentric` meets its contract. Assumes nothing.
 use mathlib.Core.Path.{sym, ap, _∙_}
 use Rattle.weights.specs.declared.BarycentricWeights.{BarycentricWeights}
 use Rattle.weights.specs.Barycentric.{weightsSay}
-use Rattle.estivolh_c.specs.Queries.{barycentricLeft}
+use Rattle.slices.specs.Answers.{barycentricLeft}
 use borrow.Author.Needs.{needs}
-use Rattle.estivolh_c.proofs.put_barycentric.Statement.{statement}
-use Rattle.estivolh_c.proofs.put_barycentric.Tie as tie
+use Rattle.slices.proofs.put_barycentric.Statement.{statement}
+use Rattle.slices.proofs.put_barycentric.Tie as tie
 
 enum-known-answer : tie.Need-enum-known-answer
 enum-known-answer c = search needs

@@ -1,12 +1,12 @@
--- `estivolh_c::put_tally` meets its contract. Assumes nothing.
+-- `slices::put_tally` meets its contract. Assumes nothing.
 use mathlib.Core.Path.{sym, ap, _∙_}
 use Rattle.query.specs.declared.NaturalNeighbors.{NaturalNeighbors}
 use Rattle.query.specs.Natural.{neighborsSay}
-use Rattle.estivolh_c.specs.Lent.{left}
-use Rattle.estivolh_c.specs.Queries.{tallyLeft}
+use Rattle.slices.specs.Lent.{left}
+use Rattle.slices.specs.Answers.{tallyLeft}
 use borrow.Author.Needs.{needs}
-use Rattle.estivolh_c.proofs.put_tally.Statement.{statement}
-use Rattle.estivolh_c.proofs.put_tally.Tie as tie
+use Rattle.slices.proofs.put_tally.Statement.{statement}
+use Rattle.slices.proofs.put_tally.Tie as tie
 
 enum-known-answer : tie.Need-enum-known-answer
 enum-known-answer c = search needs

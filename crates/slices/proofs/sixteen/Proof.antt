@@ -1,9 +1,9 @@
--- `estivolh_c::sixteen` meets its contract. Assumes nothing.
+-- `slices::sixteen` meets its contract. Assumes nothing.
 use mathlib.Core.Path.{_∙_}
-use Rattle.estivolh_c.specs.Books.{sixteen-copied}
+use Rattle.slices.specs.Books.{sixteen-copied}
 use borrow.Author.Needs.{needs}
-use Rattle.estivolh_c.proofs.sixteen.Statement.{statement}
-use Rattle.estivolh_c.proofs.sixteen.Tie as tie
+use Rattle.slices.proofs.sixteen.Statement.{statement}
+use Rattle.slices.proofs.sixteen.Tie as tie
 
 add-end : tie.Need-add-end
 add-end c = search needs

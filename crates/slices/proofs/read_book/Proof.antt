@@ -1,7 +1,7 @@
--- `estivolh_c::read_book` meets its contract. Assumes nothing.
+-- `slices::read_book` meets its contract. Assumes nothing.
 use borrow.Author.Needs.{needs}
-use Rattle.estivolh_c.proofs.read_book.Statement.{statement}
-use Rattle.estivolh_c.proofs.read_book.Tie as tie
+use Rattle.slices.proofs.read_book.Statement.{statement}
+use Rattle.slices.proofs.read_book.Tie as tie
 
 sixteen-requires : tie.Need-sixteen-requires
 sixteen-requires c κs = search needs
