@@ -6,3 +6,4 @@ pub mod History
 pub mod Agree
 pub mod Demand3
 pub mod Rows
+pub mod Charged

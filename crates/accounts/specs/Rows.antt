@@ -1,18 +1,18 @@
 -- Worked examples, computed from the definitions: 17 at the limit, the sums over a history, and two ropes. Assumes nothing.
 use mathlib.Core.Path.{_≡_, refl}
 use mathlib.Core.List.{List, [], _∷_}
-use mathlib.Core.Bool.{true, false}
-use Prim.Native.Nat.{_+_, _-_}
-use lib.IntN.{pos}
+use mathlib.Core.Bool.{true, false, cond}
+use Prim.Native.Nat.{_+_}
+use lib.Dec.{eqb}
+use lib.IntN.{ℤ, pos, negsuc}
 use lib.Ieee.{binary64, ofBits}
 use Rattle.geometry.specs.Plane.{offGrid}
 use Rattle.ranges.specs.Ranges.{notBelow}
 use Rattle.book.specs.declared.Book.{Book}
-use Rattle.book.specs.Books.{Limit}
 use Rattle.entries.specs.declared.Entry.{Entry}
 use Rattle.entries.specs.declared.Ruling.{Ruling}
 use Rattle.entries.specs.declared.Ruling.the-variants.{Bend, Splice, Refused}
-use Rattle.entries.specs.Ruling.{meets17}
+use Rattle.entries.specs.Ruling.{meets17, with17, answerOf}
 use Rattle.values.specs.Value.Answer.{value}
 use Rattle.accounts.specs.Rulings.{Queries, entryRuling}
 use Rattle.accounts.specs.Batch.{bookAfter}
@@ -34,6 +34,10 @@ bend = record { kind = pos 1; section = pos 0; x = pos 2; y = pos 3; method = po
 abbrev pub splice : Entry
 splice = record { kind = pos 2; section = pos 0; x = pos 0; y = pos 0; method = pos 0 }
 
+-- the ruling on an entry of these five numbers, in a book of two sections
+abbrev rule : ℤ → ℤ → ℤ → ℤ → ℤ → Ruling
+rule kind section x y method = entryRuling hundred 2 [] (record { kind = kind; section = section; x = x; y = y; method = method })
+
 -- the ropes' books: two bends, a splice, a bend in two batches
 abbrev pub ropeOne : Book
 ropeOne = bookAfter hundred [] (bookAfter hundred [] (fresh 2) (bend ∷ bend ∷ splice ∷ [])) (bend ∷ [])
@@ -42,16 +46,52 @@ abbrev pub ropeTwo : Book
 ropeTwo = bookAfter hundred [] (bookAfter hundred [] (fresh 2) (bend ∷ [])) (bend ∷ splice ∷ bend ∷ [])
 
 pub record AccountRows : Type 0 where
-  -- the charges may come to 10^12, not above it; a section may have 10^12 bends, not one more
-  pub last-unit : meets17 (Limit - 5) 0 5 ≡ false
-  pub unit-too-many : meets17 (Limit - 5) 0 6 ≡ true
-  pub last-bend : meets17 0 (Limit - 1) 0 ≡ false
-  pub bend-too-many : meets17 0 Limit 0 ≡ true
-  -- sections of two are 0 and 1
-  pub section-unknown : entryRuling hundred 2 [] (record { kind = pos 1; section = pos 2; x = pos 2; y = pos 3; method = pos 1 }) ≡ Refused 12
-  -- 12 before 13
-  pub first-hit : entryRuling hundred 2 [] (record { kind = pos 1; section = pos 0; x = pos 10001; y = pos 3; method = pos 4 }) ≡ Refused 12
-  pub off-grid : entryRuling hundred 2 [] (record { kind = pos 1; section = pos 0; x = pos 10001; y = pos 3; method = pos 3 }) ≡ Refused 13
+  -- 17: "above 10^12": so much may the charges come to, and one more not
+  pub last-unit : meets17 999999999999 0 1 ≡ false
+  pub unit-too-many : meets17 999999999999 0 2 ≡ true
+  pub last-units : meets17 999999000000 0 1000000 ≡ false
+  -- 17: "or the section's count is 10^12"
+  pub last-bend : meets17 0 999999999999 1000000 ≡ false
+  pub bend-too-many : meets17 0 1000000000000 0 ≡ true
+  -- 17: "the charge would take wear .. above 10^12": on a full account a bend that costs nothing is accepted
+  pub free-when-full : with17 1000000000000 (λ i. 0) (Bend 1 0) ≡ Bend 1 0
+  -- "or the section's count": that of the bend's own section
+  pub other-section-full : with17 0 (λ i. cond (eqb i 0) 1000000000000 0) (Bend 1 5) ≡ Bend 1 5
+  pub own-section-full : with17 0 (λ i. cond (eqb i 1) 1000000000000 0) (Bend 1 5) ≡ Refused 17
+  -- "14 to 17 meet bends only": a splice is accepted however full the account is
+  pub splice-when-full : with17 1000000000000 (λ i. 1000000000000) (Splice 3) ≡ Splice 3
+  -- "first hit answers": an entry that is refused keeps its number
+  pub refused-when-full : with17 1000000000000 (λ i. 1000000000000) (Refused 14) ≡ Refused 14
+  -- "its answer is 2,000,000 plus the number"; "An accepted bend answers n"; "A splice answers 0"
+  pub answer-refused : answerOf (Refused 12) ≡ 2000012
+  pub answer-bend : answerOf (Bend 3 77) ≡ 77
+  pub answer-splice : answerOf (Splice 3) ≡ 0
+  -- "kind 1 bend, 2 splice": 100.0 costs 100, and a splice is of its own section
+  pub bend-plain : rule (pos 1) (pos 0) (pos 2) (pos 3) (pos 1) ≡ Bend 0 100
+  pub splice-plain : rule (pos 2) (pos 1) (pos 0) (pos 0) (pos 0) ≡ Splice 1
+  -- 12: "kind .. unknown"
+  pub kind-none : rule (pos 0) (pos 0) (pos 2) (pos 3) (pos 1) ≡ Refused 12
+  pub kind-three : rule (pos 3) (pos 0) (pos 2) (pos 3) (pos 1) ≡ Refused 12
+  pub kind-negative : rule (negsuc 0) (pos 0) (pos 2) (pos 3) (pos 1) ≡ Refused 12
+  -- 12: "section .. unknown": sections of two are 0 and 1
+  pub section-last : rule (pos 1) (pos 1) (pos 2) (pos 3) (pos 1) ≡ Bend 1 100
+  pub section-unknown : rule (pos 1) (pos 2) (pos 2) (pos 3) (pos 1) ≡ Refused 12
+  pub section-negative : rule (pos 1) (negsuc 0) (pos 2) (pos 3) (pos 1) ≡ Refused 12
+  pub splice-section : rule (pos 2) (pos 2) (pos 0) (pos 0) (pos 0) ≡ Refused 12
+  -- 12: "(save a splice's) method unknown"
+  pub method-none : rule (pos 1) (pos 0) (pos 2) (pos 3) (pos 0) ≡ Refused 12
+  pub method-last : rule (pos 1) (pos 0) (pos 2) (pos 3) (pos 3) ≡ Bend 0 100
+  pub method-four : rule (pos 1) (pos 0) (pos 2) (pos 3) (pos 4) ≡ Refused 12
+  -- 12: "a splice whose x, y or method isn't 0"
+  pub splice-x : rule (pos 2) (pos 0) (pos 1) (pos 0) (pos 0) ≡ Refused 12
+  pub splice-y : rule (pos 2) (pos 0) (pos 0) (negsuc 0) (pos 0) ≡ Refused 12
+  pub splice-method : rule (pos 2) (pos 0) (pos 0) (pos 0) (pos 1) ≡ Refused 12
+  -- "first hit answers": 12 before 13
+  pub first-hit : rule (pos 1) (pos 0) (pos 10001) (pos 3) (pos 4) ≡ Refused 12
+  -- 13: "x or y not -10,000 to 10,000"
+  pub off-grid : rule (pos 1) (pos 0) (pos 10001) (pos 3) (pos 3) ≡ Refused 13
+  pub off-below : rule (pos 1) (pos 0) (pos 2) (negsuc 10000) (pos 3) ≡ Refused 13
+  pub grid-ends : rule (pos 1) (pos 0) (pos 10000) (negsuc 9999) (pos 3) ≡ Bend 0 100
   -- of a history: section 0 since its splice, section 1 from the start, all charges
   pub since-splice : wearSum 0 history ≡ 7 + 3
   pub bends-since : bendCount 0 history ≡ 1 + 1
@@ -67,11 +107,36 @@ account-rows =
     record {
       last-unit = refl;
       unit-too-many = refl;
+      last-units = refl;
       last-bend = refl;
       bend-too-many = refl;
+      free-when-full = refl;
+      other-section-full = refl;
+      own-section-full = refl;
+      splice-when-full = refl;
+      refused-when-full = refl;
+      answer-refused = refl;
+      answer-bend = refl;
+      answer-splice = refl;
+      bend-plain = refl;
+      splice-plain = refl;
+      kind-none = refl;
+      kind-three = refl;
+      kind-negative = refl;
+      section-last = refl;
       section-unknown = refl;
+      section-negative = refl;
+      splice-section = refl;
+      method-none = refl;
+      method-last = refl;
+      method-four = refl;
+      splice-x = refl;
+      splice-y = refl;
+      splice-method = refl;
       first-hit = refl;
       off-grid = refl;
+      off-below = refl;
+      grid-ends = refl;
       since-splice = refl;
       bends-since = refl;
       from-start = refl;

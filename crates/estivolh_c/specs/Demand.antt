@@ -18,7 +18,7 @@ use Rattle.entries.specs.declared.Ruling.the-variants.{Bend, Splice, Refused}
 use Rattle.entries.specs.Entry.{entriesOf}
 use Rattle.accounts.specs.Batch.{bookChange, bookVerdict, bookAfter, batchRefusal, Outcome, outcome, byRefusal, batchOf}
 use Rattle.accounts.specs.Tally.{tally}
-use Rattle.accounts.specs.Demand.{Call, fresh, joined, OneChart, MadeCall, Made, callsOf, Demand3Made}
+use Rattle.accounts.specs.Demand.{Call, fresh, joined, OneChart, MadeCall, Made, callsOf, lastBook, lastAnswers, Demand3Made}
 use Rattle.accounts.specs.Demand3.{demand3-made}
 use Rattle.estivolh.specs.Account.{queries}
 use Rattle.slices.specs.Lent.{kept, Left, left, enough}
@@ -78,18 +78,21 @@ module _ (l : List ℕ) (long : BookNumbers ≤ length l) (chart : List ℕ) (es
   pub batch-long : length (batchCalled l chart es lent .book) ≡ length l
   batch-long = ap (λ (w : BatchLeft). length (w .book)) called-long ∙ long-by-refusal refusalIn
 
--- ---- calls that were made on a slice: the number, the book's slice and the answer slice that each left
+-- ---- calls that were made on slices: the slice that each was handed, its number, and the book's slice and the answer slice that it left
 pub record KeptCall : Type 0 where
   pub call : Call
+  pub held : List ℕ
   pub answer : ℕ
   pub book : List ℕ
   pub answers : List ℕ
 
--- each on the slice that the one before it left; the fact of each is the contract of `estivolh_batch`, word for word
-abbrev pub MadeOn : List ℕ → List KeptCall → Type 0
-MadeOn l [] = Unit {0}
-MadeOn l (t ∷ ts) =
-    (batchLeft (t .answer) (t .book) (t .answers) ≡ batchCalled l (t .call .chart) (t .call .entries) (t .call .lent)) × MadeOn (t .book) ts
+-- each on a slice that holds the book which the one before it left: the same slice, or any other into which its 34 numbers were copied. The fact of each is
+-- the contract of `estivolh_batch`, word for word
+abbrev pub MadeOn : Book → List KeptCall → Type 0
+MadeOn b [] = Unit {0}
+MadeOn b (t ∷ ts) =
+    ((BookNumbers ≤ length (t .held)) × (bookAt (t .held) ≡ b))
+    × ((batchLeft (t .answer) (t .book) (t .answers) ≡ batchCalled (t .held) (t .call .chart) (t .call .entries) (t .call .lent)) × MadeOn (bookAt (t .book)) ts)
 
 -- the same calls with the book that stands in the slice
 abbrev pub madeCall : KeptCall → MadeCall
@@ -103,16 +106,18 @@ madeCalls (t ∷ ts) = madeCall t ∷ madeCalls ts
 abbrev read : BatchLeft → Outcome
 read w = record { refusal = w .answer; book = bookAt (w .book); answers = w .answers }
 
-made : (ts : List KeptCall) (l : List ℕ) (b : Book) → BookNumbers ≤ length l → bookAt l ≡ b → MadeOn l ts → Made queries b (madeCalls ts)
-made [] l b long e m = tt
-made (t ∷ ts) l b long e m =
+made : (ts : List KeptCall) (b : Book) → MadeOn b ts → Made queries b (madeCalls ts)
+made [] b m = tt
+made (t ∷ ts) b m =
     let c = t .call in
+    let l = t .held in
+    let long = m .0 .0 in
     let o : Outcome = batchOf queries (bookAt l) (c .chart) (c .entries) (c .lent) in
-    let f = m .0 in (
+    let f = m .1 .0 in (
       ap read (f ∙ called-long l long (c .chart) (c .entries) (c .lent))
           ∙ (ap (λ (k : Book). record { refusal = o .refusal; book = k; answers = o .answers }) (by-refusal l long (c .chart) (c .entries) (c .lent) (batchRefusal (bookAt l) (c .chart) (length (c .entries)) (length (c .lent))))
-          ∙ ap (λ (k : Book). batchOf queries k (c .chart) (c .entries) (c .lent)) e),
-      made ts (t .book) (bookAt (t .book)) (omega (arith, ap (λ (w : BatchLeft). length (w .book)) f ∙ batch-long l long (c .chart) (c .entries) (c .lent))) refl (m .1),
+          ∙ ap (λ (k : Book). batchOf queries k (c .chart) (c .entries) (c .lent)) (m .0 .1)),
+      made ts (bookAt (t .book)) (m .1 .1),
     )
 
 -- the fresh book's slice
@@ -132,11 +137,17 @@ module _ (s : ℕ) (h : 1 ≤ s) (k : s ≤ SectionMax) (lent : List ℕ) (long 
 
 -- demand 3 of a book in a slice that `estivolh_fresh` wrote and every list of calls of `estivolh_batch` after it kept
 pub demand-kept : (s : ℕ) → 1 ≤ s → s ≤ SectionMax → (lent : List ℕ) → BookNumbers ≤ length lent
-    → (r : ℕ) (l : List ℕ) → left r l ≡ freshCalled s lent → (chart : List ℕ) (ts : List KeptCall) → MadeOn l ts → OneChart chart (callsOf (madeCalls ts))
+    → (r : ℕ) (l : List ℕ) → left r l ≡ freshCalled s lent → (chart : List ℕ) (ts : List KeptCall) → MadeOn (bookAt l) ts → OneChart chart (callsOf (madeCalls ts))
     → Demand3Made queries s chart (madeCalls ts) (tally queries s chart (joined (callsOf (madeCalls ts))))
 demand-kept s h k lent long r l f chart ts m o =
     let w = fresh-written s h k lent long in
     let e : l ≡ kept 0 (numbersOf (fresh s)) lent = ap (λ (x : Left ℕ). x .slice) (f ∙ w) in
     let b : bookAt l ≡ fresh s = ap bookAt e ∙ over-read (fresh s) (fresh-long s h k lent long) lent long in
-    let n : length l ≡ length lent = ap length e ∙ over-long (fresh s) (fresh-long s h k lent long) lent long in
-    demand3-made queries s h k chart (madeCalls ts) (made ts l (fresh s) (omega arith) b m) o
+    demand3-made queries s h k chart (madeCalls ts) (made ts (fresh s) (subst (λ (x : Book). MadeOn x ts) b m)) o
+
+-- and of two lists of them alike in section count, chart and joined entries: the same answers, and the same book in the last slice
+pub division-kept : (s : ℕ) → 1 ≤ s → s ≤ SectionMax → (chart : List ℕ) (ts us : List KeptCall) → MadeOn (fresh s) ts → MadeOn (fresh s) us
+    → OneChart chart (callsOf (madeCalls ts)) → OneChart chart (callsOf (madeCalls us)) → joined (callsOf (madeCalls us)) ≡ joined (callsOf (madeCalls ts))
+    → (lastAnswers (madeCalls us) ≡ lastAnswers (madeCalls ts)) × (lastBook (fresh s) (madeCalls us) ≡ lastBook (fresh s) (madeCalls ts))
+division-kept s h k chart ts us m n o p same =
+    demand3-made queries s h k chart (madeCalls ts) (made ts (fresh s) m) o .division-does-not-matter (madeCalls us) (made us (fresh s) n) p same

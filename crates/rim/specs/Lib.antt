@@ -1,4 +1,6 @@
 pub mod TriangleA
 pub mod Checked
+pub mod Square
+pub mod Limits
 pub mod Loads
 pub mod Ropes
