@@ -23,11 +23,11 @@ use Rattle.entries.specs.Ruling.{with17, answerOf}
 use Rattle.accounts.specs.Rulings.{Queries, bendRuling, entryRuling}
 use Rattle.accounts.specs.Batch.{bookVerdict, bookChange, bookAfter, answersFrom, overlay, badSlices, Outcome, byRefusal, batchOf}
 use Rattle.batch.specs.Tables.{onTables}
-use Rattle.query.specs.Value.{valueIn}
+use Rattle.query.specs.Value.{valueIn, interpolateOf}
 
 -- a bend's value is the one that `interpolate` answers
 abbrev pub queries : Queries
-queries bytes method place = valueIn (chartIn bytes) (methodOf method) place
+queries bytes method place = interpolateOf bytes method (place .x) (place .y)
 
 -- what a batch leaves that neither 1 nor 2 meets, by what the chart's bytes hold
 abbrev pub batchIn : Loaded → Book → List ℤ → List ℕ → Outcome

@@ -20,7 +20,7 @@ use Rattle.natural.specs.Natural.{sharesFrom, sharesOf, settled}
 use Rattle.interpolate.specs.Values.{sumFrom}
 use Rattle.values.specs.Value.{locatedValue, valueOn}
 use Rattle.accounts.specs.Rulings.{entryRuling}
-use Rattle.rim.specs.TriangleA.{fileA, verticesA, edgesA, facesA}
+use Rattle.triangle.specs.TriangleA.{fileA, verticesA, edgesA, facesA}
 use Rattle.log.specs.Log.{logOf}
 use Rattle.report.specs.Lines.{answerLine, sectionLine, retiredLine, answerLines, sectionLines, bookLines, outputOf}
 use Rattle.program.specs.Program.{ranOf, printedOf, programOf}

@@ -14,7 +14,7 @@ use Rattle.checks.specs.Checks.{chartRefusal, tablesRefusal}
 use Rattle.checks.specs.Checks.Loaded.{loaded}
 use Rattle.reading.specs.declared.Head.the-variants.{Counts}
 use Rattle.reading.specs.Reading.{countsOf, headOf, bodyOf, loadOf, chartIn, chartRefusalOf}
-use Rattle.rim.specs.TriangleA.{fileA, verticesA, edgesA, facesA}
+use Rattle.triangle.specs.TriangleA.{fileA, verticesA, edgesA, facesA}
 
 -- the byte in a row of vertices, half-edges or faces: 25 bytes of line 1, then 33 a line; column k
 abbrev at : ℕ → ℕ → ℕ

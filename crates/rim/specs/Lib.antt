@@ -1,4 +1,3 @@
-pub mod TriangleA
 pub mod Checked
 pub mod Square
 pub mod Limits

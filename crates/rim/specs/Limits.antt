@@ -17,7 +17,7 @@ use Rattle.locate.specs.declared.Location.the-variants.{OnEdge, OutsideOfConvex
 use Rattle.locate.specs.Location.{locationOf}
 use Rattle.query.specs.Location.{locateOn, locateOf}
 use Rattle.query.specs.Location.Located.{at, turnedDown}
-use Rattle.rim.specs.TriangleA.{fileA, verticesA, edgesA, facesA}
+use Rattle.triangle.specs.TriangleA.{fileA, verticesA, edgesA, facesA}
 use Rattle.rim.specs.Square.{byte, put, figures, square}
 
 pub record Rows : Type 0 where

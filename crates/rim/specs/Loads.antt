@@ -30,7 +30,7 @@ use Rattle.query.specs.Location.Located.{at, turnedDown}
 use Rattle.query.specs.Weights.{barycentricOn, barycentricOf}
 use Rattle.query.specs.Natural.{edgesOn, naturalEdgesOf}
 use Rattle.query.specs.Natural.Tally.{listed}
-use Rattle.rim.specs.TriangleA.{fileA, verticesA, edgesA, facesA}
+use Rattle.triangle.specs.TriangleA.{fileA, verticesA, edgesA, facesA}
 
 -- a vertex with its weight, by the weight's bits
 abbrev with-bits : ℕ → ℕ → Weighted

@@ -25,7 +25,7 @@ use Rattle.accounts.specs.Rulings.{entryRuling}
 use Rattle.accounts.specs.Batch.{batchOf}
 use Rattle.accounts.specs.Demand.{Call, fresh, after, answers}
 use Rattle.estivolh.specs.Account.{queries}
-use Rattle.rim.specs.TriangleA.{fileA, verticesA, edgesA, facesA}
+use Rattle.triangle.specs.TriangleA.{fileA, verticesA, edgesA, facesA}
 
 -- 01's log: two bends, a splice, a bend
 unfoldable pub logA : List ℤ
