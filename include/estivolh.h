@@ -1,20 +1,39 @@
-/* The public calls of Estivolh for C: wear charts and the rope book. Link libestivolh_c.a (rt staticlib estivolh_c writes it, for
- * x86-64 Linux); of the C library it needs memcpy and memset.
+/* The public calls of Estivolh for C: wear charts and the rope book. Version 1.1.0.
  *
- * "01" is the document that defines the wear chart and the rope book. Each call returns 0 where it is accepted, or else the number of
- * the refusal that meets it first (enum estivolh_refusal), and then it has written nothing. A lent slice is a pointer and the number of
- * its elements. Where this header states a length for a lent slice, a shorter one gets ESTIVOLH_SLICES before all else; a longer one is
- * taken, and its elements past those that are named here are unchanged. So much is proved for every content of every slice.
+ * Link libestivolh_c.a (rt staticlib estivolh_c writes it, for x86-64 Linux); of the C library it needs memcpy and memset.
  *
- * Outside the proof, and the caller's promise: each pointer is valid for as many elements as the length beside it says (for writing
- * where it is not const), is aligned for its type and is not NULL, not even where the length is 0; and no slice that a call writes
- * overlaps another slice of the same call.
+ * NEW IN 1.1.0, and it breaks callers' source: the names of the refusals begin with ESTIVOLH_REFUSED_ (ESTIVOLH_OUTSIDE is now
+ * ESTIVOLH_REFUSED_OUTSIDE), so that none is taken for a position or for an index of the book; and compilers warn where a call's number
+ * is dropped. Numbers, functions and slices are those of 1.0.0: what is compiled already links and runs as before. CHANGELOG.md.
  *
- * No call keeps anything from one time to the next or uses memory other than its stack and what it is lent: several threads may call
- * at the same time, each with slices of its own. The most stack that a call was measured to take, on the largest chart, is 92 KB.
+ * What a chart, a log, a book and an answer are: docs/FORMATS.md. "01" is the paper that defined them; that page says what it says. A
+ * chart is the bytes of a chart file, which each call checks. Vertices, half-edges and faces are numbered from 0 in the order of the
+ * file; face 0 is the outer one. x and y are whole numbers from -10000 to 10000, in the chart's units. Floats are IEEE 754 doubles.
  *
- * A chart is the bytes of a chart file, which each call checks. Vertices, half-edges and faces are numbered from 0 in the order of the
- * file; face 0 is the outer one. x and y are whole numbers from -10000 to 10000. Floats are IEEE 754 doubles. */
+ * PROVED, for every content of every slice: each call returns 0 where it is accepted, or else the number of the refusal that meets it first
+ * (enum estivolh_refusal), and then it has written nothing. A lent slice is a pointer and the number of its elements. Where this header
+ * states a length for a lent slice, a shorter one gets ESTIVOLH_REFUSED_SLICES before all else; a longer one is taken. An accepted call
+ * writes the elements that are named here for it, and every other element is as it was. Every call ends.
+ *     Of an element that holds a not-a-number and is not written, the proof says that it still holds one; that its bits are kept is tested
+ * (tests/calls.c).
+ *
+ * THE CALLER'S PROMISE, outside the proof, as no call could test it:
+ *   - Each pointer is valid for as many elements as the length beside it says (for writing where it is not const), is aligned for its type,
+ *     and is not NULL, not even where the length is 0. data() of an empty C++ vector may be NULL: lend the address of any element of
+ *     the type, with length 0.
+ *   - No slice that a call writes overlaps another slice of the same call. Slices that are only read may overlap.
+ *   - Nothing else writes a lent slice while the call runs, one that is only read included: no other thread, interrupt, process or device.
+ *   - The thread's floating-point environment is the one that a C program starts with: rounding to nearest, exceptions masked, neither
+ *     flush to zero nor denormals as zero (linking with -ffast-math may set both). No call looks at it. Under another rounding mode some
+ *     bends get another charge, and the book is wrong: in a trial it was 63 of 83,988 values.
+ *
+ * THREADS: no call keeps anything from one time to the next, or uses memory other than its stack and what it is lent. Several threads may
+ * call at the same time; they may share what is only read, such as the chart, and each has its own slices for what is written. The most
+ * stack that a call was measured to take, on the largest chart, is 92 KB.
+ *
+ * POWER: a call that does not return, as power fails or the processor is reset, may leave the slices that it writes half written. Where
+ * they outlast that, keep a copy of the book of before until estivolh_batch has returned; with the copy, the whole batch can be handed
+ * over again. */
 #ifndef ESTIVOLH_H
 #define ESTIVOLH_H
 
@@ -25,35 +44,46 @@
 extern "C" {
 #endif
 
-/* Why a call is refused, in the order in which the refusals are tried (docs/DECISIONS.md, first row, says where 2 and 3 stand). An entry
- * of a batch that is refused alone is answered ESTIVOLH_ENTRY_REFUSED plus the number, 12 to 17. */
+/* The version of this header and the library: 10000 * major + 100 * minor + patch. */
+#define ESTIVOLH_VERSION 10100
+
+/* Whoever drops a call's number takes a refused call for an accepted one, so a compiler that can is told to warn. */
+#if defined(__GNUC__)
+#define ESTIVOLH_MUST_CHECK __attribute__((warn_unused_result))
+#else
+#define ESTIVOLH_MUST_CHECK
+#endif
+
+/* What a call returns: 0, or why it is refused, in the order in which the refusals are tried (docs/DECISIONS.md, first row, says where 2 and
+ * 3 stand). An entry of a batch that is refused alone is answered ESTIVOLH_ENTRY_REFUSED plus the number, 12 to 17. */
 enum estivolh_refusal {
     ESTIVOLH_ACCEPTED = 0,
-    ESTIVOLH_BOOK = 1,         /* sections not 1 to 16; wear and retired wear together, or a bend count, above 10^12; a section that the
-                                  book does not have is not all zero */
-    ESTIVOLH_SLICES = 2,       /* a lent slice is too short, or the entries are no multiple of five numbers */
-    ESTIVOLH_CHART_LENGTH = 3, /* fewer than 25 bytes, or not the length that the counts on line 1 give */
-    ESTIVOLH_CHART_COUNTS = 4, /* vertices not 3 to 128, half-edges odd or not 6 to 756, faces not 2 to 252 */
-    ESTIVOLH_CHART_FIELD = 5,  /* a malformed field or line end */
-    ESTIVOLH_CHART_RANGE = 6,  /* a coordinate, a value, or a number of a vertex, half-edge or face out of range */
-    ESTIVOLH_CHART_LINKS = 7,  /* the links between vertices, half-edges and faces are broken */
-    ESTIVOLH_CHART_PLACES = 8, /* two vertices at one place */
-    ESTIVOLH_CHART_TURN = 9,   /* an inner face whose corners don't turn strictly left */
-    ESTIVOLH_CHART_RIM = 10,   /* a vertex strictly left of an outer half-edge */
-    ESTIVOLH_CHART_CIRCLE = 11, /* a vertex strictly inside an inner face's circle */
-    ESTIVOLH_UNKNOWN = 12,     /* a kind, section, vertex number or method that is unknown; a splice whose x, y or method isn't 0 */
-    ESTIVOLH_OFF_GRID = 13,    /* x or y not -10000 to 10000 */
-    ESTIVOLH_OUTSIDE = 14,     /* outside the chart's hull */
-    ESTIVOLH_NO_PLACE = 15,    /* no place found; for natural weights, and values by methods 2 and 3, a broken turn about a neighbour */
-    ESTIVOLH_NO_CHARGE = 16,   /* the value is not a number, below -0.5, or at least 1000000.5 */
-    ESTIVOLH_FULL = 17         /* the charge would take wear and retired wear together above 10^12, or the section has 10^12 bends */
+    ESTIVOLH_REFUSED_BOOK = 1,          /* sections not 1 to 16; wear and retired wear together, or a bend count, above 10^12; a section
+                                           that the book does not have is not all zero */
+    ESTIVOLH_REFUSED_SLICES = 2,        /* a lent slice is too short, or the entries are no multiple of five numbers */
+    ESTIVOLH_REFUSED_CHART_LENGTH = 3,  /* fewer than 25 bytes, or not the length that the counts on line 1 give */
+    ESTIVOLH_REFUSED_CHART_COUNTS = 4,  /* vertices not 3 to 128, half-edges odd or not 6 to 756, faces not 2 to 252 */
+    ESTIVOLH_REFUSED_CHART_FIELD = 5,   /* a malformed field or line end */
+    ESTIVOLH_REFUSED_CHART_RANGE = 6,   /* a coordinate, a value, or a number of a vertex, half-edge or face out of range */
+    ESTIVOLH_REFUSED_CHART_LINKS = 7,   /* the links between vertices, half-edges and faces are broken */
+    ESTIVOLH_REFUSED_CHART_PLACES = 8,  /* two vertices at one place */
+    ESTIVOLH_REFUSED_CHART_TURN = 9,    /* an inner face whose corners don't turn strictly left */
+    ESTIVOLH_REFUSED_CHART_RIM = 10,    /* a vertex strictly left of an outer half-edge */
+    ESTIVOLH_REFUSED_CHART_CIRCLE = 11, /* a vertex strictly inside an inner face's circle */
+    ESTIVOLH_REFUSED_UNKNOWN = 12,      /* a kind, section, vertex number or method that is unknown; a splice whose x, y or method isn't 0 */
+    ESTIVOLH_REFUSED_OFF_GRID = 13,     /* x or y not -10000 to 10000 */
+    ESTIVOLH_REFUSED_OUTSIDE = 14,      /* outside the chart's hull; of estivolh_locate it is an answer, ESTIVOLH_OUTSIDE_OF_HULL */
+    ESTIVOLH_REFUSED_NO_PLACE = 15,     /* no place found; for natural weights, and values by methods 2 and 3, a broken turn about a
+                                           neighbour */
+    ESTIVOLH_REFUSED_NO_CHARGE = 16,    /* the value is not a number, below -0.5, or at least 1000000.5 */
+    ESTIVOLH_REFUSED_FULL = 17          /* the charge would take wear and retired wear together above 10^12, or the section has 10^12 bends */
 };
 
 /* Added to the number of the refusal in the answer of an entry that is refused alone. Answers of accepted entries are at most 1000000. */
 #define ESTIVOLH_ENTRY_REFUSED 2000000
 
 /* A book is 34 numbers: how many sections the rope has; the wear of each of 16 sections; the bend count of each; the retired wear.
- * Sections are numbered from 0. Those that the rope doesn't have are 0. */
+ * Sections are numbered from 0. Those that the rope doesn't have are 0. ESTIVOLH_BOOK_.. are indices into the slice. */
 #define ESTIVOLH_BOOK_NUMBERS 34
 #define ESTIVOLH_SECTIONS_MAX 16
 #define ESTIVOLH_BOOK_SECTIONS 0
@@ -66,62 +96,81 @@ enum estivolh_refusal {
 enum estivolh_kind { ESTIVOLH_BEND = 1, ESTIVOLH_SPLICE = 2 };
 enum estivolh_method { ESTIVOLH_BARYCENTRIC = 1, ESTIVOLH_NATURAL = 2, ESTIVOLH_GRADIENTS = 3 };
 
-/* What a load lies on. */
+/* What a load lies on: the first number that estivolh_locate writes. */
 enum estivolh_position { ESTIVOLH_ON_VERTEX = 1, ESTIVOLH_ON_EDGE = 2, ESTIVOLH_ON_FACE = 3, ESTIVOLH_OUTSIDE_OF_HULL = 4 };
 
 /* The most half-edges that a chart has: slices of this length have room for every chart. */
 #define ESTIVOLH_HALF_EDGES_MAX 756
 
-/* Whether the bytes are an accepted chart. Refusals: 3 to 11. */
+/* Of every call below: 'writes' is what it writes where it returns 0. Where it returns another number it writes nothing. */
+
+/* Whether the bytes are an accepted chart. Writes nothing. Refusals: 3 to 11. */
+ESTIVOLH_MUST_CHECK
 uint64_t estivolh_check(const uint8_t *chart, size_t chart_length);
 
-/* Where the load at (x, y) lies. position, stated length 2: [0] is its kind (enum estivolh_position), [1] the number of the vertex,
- * the half-edge or the face; of a load outside the hull, that of an outer half-edge which it lies strictly left of. Outside is an answer
- * of this call, no refusal. Refusals: 2, 3 to 11, 13, 15. */
+/* Where the load at (x, y) lies. position has a stated length of 2.
+ * Writes position[0], the kind (enum estivolh_position), and position[1], the number of the vertex, half-edge or face; of a load outside
+ * the hull, that of the lowest outer half-edge which it lies strictly left of. Outside is an answer of this call, no refusal.
+ * Refusals: 2, 3 to 11, 13, 15. */
+ESTIVOLH_MUST_CHECK
 uint64_t estivolh_locate(const uint8_t *chart, size_t chart_length, int64_t x, int64_t y, uint64_t *position, size_t position_length);
 
-/* The barycentric weights of the load at (x, y). found, stated length 1: [0] is how many vertices there are, n: 1 on a vertex, 2 on an
- * edge, 3 on a face. vertices and weights, stated length 3 each: the first n elements of vertices are the vertices, the first n of
- * weights their weights; the others are unchanged. Refusals: 2, 3 to 11, 13, 14, 15. */
+/* The barycentric weights of the load at (x, y). vertices and weights have a stated length of 3, found of 1.
+ * Writes found[0], how many vertices there are, n: 1 on a vertex, 2 on an edge, 3 on a face; the vertices into the first n elements of
+ * vertices, their weights into the first n of weights. Where n is below 3, vertices[n], weights[n] and those after them are as they were.
+ * Refusals: 2, 3 to 11, 13, 14, 15. */
+ESTIVOLH_MUST_CHECK
 uint64_t estivolh_barycentric_weights(const uint8_t *chart, size_t chart_length, int64_t x, int64_t y, uint64_t *vertices,
                                       size_t vertices_length, double *weights, size_t weights_length, uint64_t *found, size_t found_length);
 
-/* The natural neighbour edges of the load at (x, y). found, stated length 2: [0] is how many there are, n, and [1] how many faces the
- * search opened. edges: its first n elements are half-edges, in the search's order; the others are unchanged. edges must have as many
- * elements as the chart has half-edges: 2 is tested for it right after 4, as the chart's first line has to be read. Refusals: 2, 3 to 11,
- * 13, 14, 15. */
+/* The natural neighbour edges of the load at (x, y). found has a stated length of 2. edges must have as many elements as the chart has
+ * half-edges: 2 is tested for it right after 4, as the chart's first line has to be read.
+ * Writes found[0], how many edges there are, n, and found[1], how many faces the search opened; the edges, as numbers of half-edges in the
+ * search's order, into the first n elements of edges. Refusals: 2, 3 to 11, 13, 14, 15. */
+ESTIVOLH_MUST_CHECK
 uint64_t estivolh_natural_neighbor_edges(const uint8_t *chart, size_t chart_length, int64_t x, int64_t y, uint64_t *edges,
                                          size_t edges_length, uint64_t *found, size_t found_length);
 
-/* The natural neighbour weights of the load at (x, y). found, stated length 2: [0] is how many vertices there are, n, and [1] how many
- * faces the search opened. The first n elements of vertices are the vertices, the first n of weights their weights; the others are
- * unchanged. Both must have as many elements as the chart has half-edges: 2 is tested for them right after 4. Refusals: 2, 3 to 11, 13,
- * 14, 15. */
+/* The natural neighbour weights of the load at (x, y). found has a stated length of 2. vertices and weights must have as many elements as
+ * the chart has half-edges: 2 is tested for them right after 4.
+ * Writes found[0], how many vertices there are, n, and found[1], how many faces the search opened; the vertices into the first n elements
+ * of vertices, their weights into the first n of weights. Refusals: 2, 3 to 11, 13, 14, 15. */
+ESTIVOLH_MUST_CHECK
 uint64_t estivolh_natural_neighbor_weights(const uint8_t *chart, size_t chart_length, int64_t x, int64_t y, uint64_t *vertices,
                                            size_t vertices_length, double *weights, size_t weights_length, uint64_t *found,
                                            size_t found_length);
 
-/* The slope of the wear at a vertex. gradient, stated length 2: [0] is its component along x, [1] that along y. Refusals: 2, 3 to 11,
- * 12 (vertex not below the chart's count). */
+/* The slope of the wear at a vertex. gradient has a stated length of 2.
+ * Writes gradient[0], its component along x, and gradient[1], that along y.
+ * Refusals: 2, 3 to 11, 12 (vertex not below the chart's count). */
+ESTIVOLH_MUST_CHECK
 uint64_t estivolh_estimate_gradient(const uint8_t *chart, size_t chart_length, uint64_t vertex, double *gradient, size_t gradient_length);
 
-/* The wear of a bend at (x, y), by a method (enum estivolh_method). value, stated length 1: [0] is the wear. Refusals: 2, 3 to 11,
- * 12 (method unknown), 13, 14, 15. */
+/* The wear of a bend at (x, y), by a method (enum estivolh_method). value has a stated length of 1.
+ * Writes value[0], the wear, not rounded; it may be one that estivolh_charge refuses with 16.
+ * Refusals: 2, 3 to 11, 12 (method unknown), 13, 14, 15. */
+ESTIVOLH_MUST_CHECK
 uint64_t estivolh_interpolate(const uint8_t *chart, size_t chart_length, int64_t method, int64_t x, int64_t y, double *value,
                               size_t value_length);
 
-/* What a value costs: the whole n with n - 0.5 <= value < n + 0.5. charge, stated length 1: [0] is n. Refusals: 2, 16. */
+/* What a value costs: the whole n with n - 0.5 <= value < n + 0.5. charge has a stated length of 1.
+ * Writes charge[0], n, from 0 to 1000000. Refusals: 2, 16; a value that is not a number gets 16. */
+ESTIVOLH_MUST_CHECK
 uint64_t estivolh_charge(double value, uint64_t *charge, size_t charge_length);
 
-/* A fresh book of so many sections. book, stated length ESTIVOLH_BOOK_NUMBERS: [0] is sections, and the 33 numbers after it are 0.
- * Refusals: 2; 1 (sections not 1 to 16). */
+/* A fresh book of so many sections. book has a stated length of ESTIVOLH_BOOK_NUMBERS.
+ * Writes book[0], sections, and 0 into book[1] to book[33]. Refusals: 2; 1 (sections not 1 to 16). */
+ESTIVOLH_MUST_CHECK
 uint64_t estivolh_fresh(uint64_t sections, uint64_t *book, size_t book_length);
 
-/* A batch of entries on a book, under a chart. book, stated length ESTIVOLH_BOOK_NUMBERS: the book before the batch, and as the call
- * returns the book after it. entries: 5 numbers for each of n entries. answers: its first n elements are the answers, in order: the
- * charge of an accepted bend, 0 for an accepted splice, ESTIVOLH_ENTRY_REFUSED plus the number for an entry that is refused alone, which
- * changes nothing; the others are unchanged. Refusals of the whole batch: 2 (book too short); 1; 2 (entries no multiple of five numbers,
- * fewer answers than entries); 3 to 11. However a log is divided into batches, the book after the last one is the same. */
+/* A batch of entries on a book, under a chart. book has a stated length of ESTIVOLH_BOOK_NUMBERS and holds the book before the batch.
+ * entries has 5 numbers for each of n entries, n from 0 on.
+ * Writes the answers, in order, into the first n elements of answers, as it goes along: the charge of an accepted bend, 0 for an accepted
+ * splice, ESTIVOLH_ENTRY_REFUSED plus the number for an entry that is refused alone, which changes nothing. Then the book after the batch
+ * into book[0] to book[33]. An accepted batch may have refused entries: look at the answers.
+ * Refusals of the whole batch: 2 (book too short); 1; 2 (entries no multiple of five numbers, fewer answers than entries); 3 to 11.
+ * However a log is divided into batches, the answers are the same, and so is the book after the last one. */
+ESTIVOLH_MUST_CHECK
 uint64_t estivolh_batch(uint64_t *book, size_t book_length, const uint8_t *chart, size_t chart_length, const int64_t *entries,
                         size_t entries_length, uint64_t *answers, size_t answers_length);
 

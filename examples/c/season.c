@@ -9,7 +9,7 @@
 #define BATCH 2                  /* entries of a batch */
 #define CHART_MAX (31465 + 1)    /* the largest chart, and one byte more: a longer file is refused by its length */
 
-/* Bends and a splice of 01's example: the splice is not the last entry of its batch. */
+/* The entries of examples/triangle-a/log.txt. The splice is not the last entry of its batch. */
 static const int64_t batches[2][BATCH * ESTIVOLH_ENTRY_NUMBERS] = {
     {ESTIVOLH_BEND, 0, 2, 3, ESTIVOLH_BARYCENTRIC, ESTIVOLH_BEND, 1, 5, -1, ESTIVOLH_BARYCENTRIC},
     {ESTIVOLH_SPLICE, 0, 0, 0, 0, ESTIVOLH_BEND, 0, 5, 0, ESTIVOLH_NATURAL},

@@ -1,5 +1,5 @@
 // A season's log in two batches, from Rust: the same as examples/c/season.c, and prints the same. The two wrappers are all that is unsafe:
-// what include/estivolh.h asks of pointers, Rust's slices give.
+// what include/estivolh.h asks of pointers, Rust's slices give; what it asks of the floating-point environment, every Rust program has.
 
 const SECTIONS: usize = 2;
 const BOOK_NUMBERS: usize = 34; // sections, 16 wears, 16 bend counts, retired wear
@@ -24,10 +24,12 @@ extern "C" {
     ) -> u64;
 }
 
+#[must_use]
 fn fresh(sections: u64, book: &mut [u64]) -> u64 {
     unsafe { estivolh_fresh(sections, book.as_mut_ptr(), book.len()) }
 }
 
+#[must_use]
 fn batch(book: &mut [u64], chart: &[u8], entries: &[i64], answers: &mut [u64]) -> u64 {
     unsafe {
         estivolh_batch(
