@@ -757,7 +757,7 @@ def straight(write):
         if n == 0: write(p, 'queries.txt', query_text(q))
         write(p, 'log.txt', whole_log((1, 0, *x, m) for x in q for m in (1, 2, 3)))
 
-    along = [(x, y) for y in (0, 1, -1) for x in range(-1, 14)]
+    along = [(x, 0) for x in (-1, 0, 1, 3, 6, 9, 12, 13)] + [(6, 1), (6, -1), (5, 1), (7, 2)]
     put('f24', [(0, 0), (3, 0), (4, 0), (9, 0), (12, 0), (6, 5)], [(i, i + 1, 5) for i in range(4)], along, 'a hull side through five vertices')
     for p, y, note in (('f25', 0, 'an inner face whose corners lie on a line'), ('f26', 1, 'the same, its middle corner one step inside'),
                        ('f27', -1, 'the same, one step outside')):
