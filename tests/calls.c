@@ -1,7 +1,9 @@
 /* Every exported function on triangle A (its path is the argument): with a lent slice too short by one, which must get 2 and leave every
  * slice as it was; refused otherwise, with the same; accepted, with 01's answers ("Loads at the rim") and the oracle's floats, and every
- * element past the named ones as it was. Each slice ends at a page that cannot be touched. */
+ * element past the named ones as it was. Each slice ends at a page that cannot be touched. All of it once for each guard: as it was means
+ * the same 64 bits, also where a float's are those of a not-a-number, which a copy through a float register could change. */
 #define _DEFAULT_SOURCE
+#include <inttypes.h>
 #include <stdio.h>
 #include <string.h>
 #include <sys/mman.h>
@@ -10,14 +12,16 @@
 
 #define PAGE 4096
 #define PAGES 2
-static const uint64_t guard = 0xa5a5a5a5a5a5a5a5u;
+/* what a slice holds before a call: a number, then not-a-numbers, quiet and signalling, of both signs, with payloads */
+static const uint64_t guards[] = {0xa5a5a5a5a5a5a5a5u, 0x7ff8deadbeef0001u, 0x7ff4deadbeef0001u, 0xfff0000000000001u, UINT64_MAX};
+static uint64_t guard;
 
 static int failures, checks;
 static void expect(int holds, int line) {
     checks++;
     if (!holds) {
         failures++;
-        printf("tests/calls.c:%d: FAILED\n", line);
+        printf("tests/calls.c:%d: FAILED, guard %016" PRIx64 "\n", line, guard);
     }
 }
 #define EXPECT(x) expect((x), __LINE__)
@@ -39,7 +43,9 @@ static void *lent(size_t n) {
 /* Whether the elements from one on still have the guard's bits. */
 static int kept(const void *p, size_t from, size_t n) {
     for (size_t i = from; i < n; i++) {
-        if (memcmp((const uint8_t *)p + 8 * i, &guard, 8) != 0) {
+        uint64_t bits;
+        memcpy(&bits, (const uint8_t *)p + 8 * i, 8);
+        if (bits != guard) {
             return 0;
         }
     }
@@ -156,6 +162,12 @@ static void charge(void) {
     EXPECT(estivolh_charge(1000000.5, n, 1) == 16 && kept(n, 0, 1));
     EXPECT(estivolh_charge(149.5, n, 1) == 0 && n[0] == 150);
     EXPECT(estivolh_charge(-0.5, m, 3) == 0 && m[0] == 0 && kept(m, 1, 3));
+    uint64_t *none = lent(1);
+    double value;
+    memcpy(&value, &guard, 8);
+    if (value != value) {
+        EXPECT(estivolh_charge(value, none, 1) == 16 && kept(none, 0, 1));
+    }
 }
 
 /* The 34 numbers of a book of two sections whose second has no bends. */
@@ -204,6 +216,19 @@ static void batch(void) {
     }
 }
 
+static void every_call(void) {
+    check();
+    locate();
+    barycentric_weights();
+    natural_neighbor_edges();
+    natural_neighbor_weights();
+    estimate_gradient();
+    interpolate();
+    charge();
+    fresh();
+    batch();
+}
+
 int main(int argc, char **argv) {
     uint8_t *text = lent(PAGES * PAGE / 8);
     FILE *file = argc > 1 ? fopen(argv[1], "rb") : NULL;
@@ -216,16 +241,10 @@ int main(int argc, char **argv) {
     chart = text + PAGES * PAGE - size; /* the chart too ends at the wall */
     memmove(chart, text, size);
 
-    check();
-    locate();
-    barycentric_weights();
-    natural_neighbor_edges();
-    natural_neighbor_weights();
-    estimate_gradient();
-    interpolate();
-    charge();
-    fresh();
-    batch();
-    printf("-- %d checks of the exported calls, %d failed\n", checks, failures);
+    for (size_t i = 0; i < sizeof guards / sizeof *guards; i++) {
+        guard = guards[i];
+        every_call();
+    }
+    printf("-- %d checks of the exported calls, also around not-a-numbers, %d failed\n", checks, failures);
     return failures != 0;
 }

@@ -103,9 +103,11 @@ struct Oracle {
     anomalies: Vec<String>,
 }
 
-/// A natural answer: edges in order with the opened count, or a refusal.
-type Edges = Result<(u32, Vec<usize>), u32>;
+/// Weights in order, or a refusal.
 type Weights = Result<Vec<(usize, f64)>, u32>;
+/// A natural answer: the opened count with the edges or the weights in order, or a refusal.
+type Edges = Result<(usize, Vec<usize>), u32>;
+type Shares = Result<(usize, Vec<(usize, f64)>), u32>;
 
 impl Oracle {
     fn new(c: &Chart) -> Self {
@@ -171,30 +173,35 @@ impl Oracle {
         let place = self.place(x, y)?;
         let p = Point2::new(x as f64, y as f64);
         let e = self.guarded("edges", |t| oracle_edges(t, p).iter().map(|e| e.index()).collect())?;
-        let asked = robust::log_take();
-        // count the faces opened; a second opening, or of the start face, is where 01 may differ from the Rust
+        Ok((self.opened("edges", place, x, y), e))
+    }
+
+    fn natural(&mut self, x: i64, y: i64) -> Shares {
+        let place = self.place(x, y)?;
+        let p = Point2::new(x as f64, y as f64);
+        let w = self.guarded("natural", |t| {
+            let mut r = Vec::new();
+            t.natural_neighbor().get_weights(p, &mut r);
+            r.into_iter().map(|(v, w)| (v.index(), w)).collect()
+        })?;
+        Ok((self.opened("natural", place, x, y), w))
+    }
+
+    /// How many faces the guarded call just made has opened, by the circle tests that it asked for. A second opening, or one of the start
+    /// face, is where 01 may differ from the Rust.
+    fn opened(&mut self, what: &str, place: PositionInTriangulation, x: i64, y: i64) -> usize {
         let mut seen = HashSet::new();
         if let PositionInTriangulation::OnFace(f) = place {
             let mut k = self.tri.face(f).positions().map(|p| (p.x as i64, p.y as i64));
             k.sort();
             seen.insert(k);
         }
-        for (k, inside) in asked {
+        for (k, inside) in robust::log_take() {
             if inside && !seen.insert(k) {
-                self.anomalies.push(format!("edges {x} {y}: a face is opened twice"));
+                self.anomalies.push(format!("{what} {x} {y}: a face is opened twice"));
             }
         }
-        Ok((seen.len() as u32, e))
-    }
-
-    fn natural(&mut self, x: i64, y: i64) -> Weights {
-        self.place(x, y)?;
-        let p = Point2::new(x as f64, y as f64);
-        self.guarded("natural", |t| {
-            let mut r = Vec::new();
-            t.natural_neighbor().get_weights(p, &mut r);
-            r.into_iter().map(|(v, w)| (v.index(), w)).collect()
-        })
+        seen.len()
     }
 
     fn value(&mut self, x: i64, y: i64, method: i64) -> Result<f64, u32> {
@@ -233,10 +240,8 @@ impl Oracle {
 
     /// The lines of one query.
     fn query(&mut self, (x, y): (i64, i64), only: &Only, o: &mut String) {
-        let weights = |w: Weights| match w {
-            Ok(w) => w.iter().fold(w.len().to_string(), |s, (v, w)| s + &format!(" {} {}", v, bits(*w))),
-            Err(n) => format!("refused {n}"),
-        };
+        let listed = |w: Vec<(usize, f64)>| w.iter().fold(w.len().to_string(), |s, (v, w)| s + &format!(" {} {}", v, bits(*w)));
+        let refused = |n: u32| format!("refused {n}");
         if only.has("query") {
             writeln!(o, "query {x} {y}").unwrap();
         }
@@ -244,7 +249,7 @@ impl Oracle {
             writeln!(o, "location {}", self.location(x, y)).unwrap();
         }
         if only.has("barycentric") {
-            writeln!(o, "barycentric {}", weights(self.barycentric(x, y))).unwrap();
+            writeln!(o, "barycentric {}", self.barycentric(x, y).map_or_else(refused, listed)).unwrap();
         }
         if only.has("edges") {
             match self.edges(x, y) {
@@ -257,7 +262,8 @@ impl Oracle {
             }
         }
         if only.has("natural") {
-            writeln!(o, "natural {}", weights(self.natural(x, y))).unwrap();
+            let shares = self.natural(x, y).map_or_else(refused, |(n, w)| format!("{n} {}", listed(w)));
+            writeln!(o, "natural {shares}").unwrap();
         }
         if only.has("value") {
             for m in 1..=3 {

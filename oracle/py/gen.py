@@ -206,6 +206,10 @@ def queries(rnd, c, n=24):
     return q
 
 
+def query_text(q):
+    return ''.join('%d %d\n' % p for p in q)
+
+
 def entries(rnd, q, n, sections):
     es = []
     for _ in range(n):
@@ -220,8 +224,13 @@ def entries(rnd, q, n, sections):
     return es
 
 
+def whole_log(es):
+    return ''.join(''.join('%8d' % n for n in e) + '\n' for e in es)
+
+
 def log_text(rnd, es):
-    t = ''.join(''.join('%8d' % n for n in e) + '\n' for e in es).encode()
+    """A log, perhaps a malformed one."""
+    t = whole_log(es).encode()
     r = rnd.random()
     if r < 0.06: t = t[:-1]
     elif r < 0.10: t = t + b'x'
@@ -283,6 +292,134 @@ def list_text(rnd, q):
         room, es = one()
         out += ['%d %d' % (room, rnd.choice([0, 0, 0, 0, 0, 0, 1, 9, 316, 2 ** 64 - 1])), es]
     return '\n'.join(out) + '\n'
+
+
+# ---------------------------------------------------------------- loads where an exact test is 0 or next to it
+
+# squared radius and scale of lattice circles that reach far over the grid of 10,000
+LARGE = [(1105, 200), (5525, 100), (27625, 50), (160225, 20), (160225, 22), (801125, 10), (801125, 11)]
+
+
+def large_circle(rnd):
+    """The lattice points of a large circle, counterclockwise."""
+    r2, scale = rnd.choice(LARGE)
+    return sorted(((scale * x, scale * y) for x, y in lattice_circle(r2)), key=lambda p: math.atan2(p[1], p[0]))
+
+
+def around(q, r=1):
+    """The lattice points within r steps of q, with it."""
+    return [(q[0] + i, q[1] + j) for i in range(-r, r + 1) for j in range(-r, r + 1)]
+
+
+def chart_at(rnd, P, vals=None):
+    """A chart of these tests, or None where they give none."""
+    if not 3 <= len(P) <= 128 or any(abs(n) > G for p in P for n in p): return None
+    opp = delaunay(P, rnd)
+    return opp and chart_of(P, opp, vals or values(rnd, P), rnd)
+
+
+def arc(rnd):
+    """Three tests on a large circle and one beyond an arc of it: loads on the arc, exactly on the circle, and one step off."""
+    ring = large_circle(rnd)
+    n, first = len(ring), rnd.randrange(len(ring))
+    ring = ring[first:] + ring[:first]
+    span = rnd.randint(2, n // 3)
+    between = ring[1:span]
+    (x, y), f = between[len(between) // 2], rnd.choice([1.05, 1.2, 1.6, 2.5, 4])
+    P = [ring[0], ring[span], ring[rnd.randint(span + 1, n - 1)], (round(f * x), round(f * y))]
+    ox, oy = rnd.randint(-3000, 3000), rnd.randint(-3000, 3000)
+    if any(abs(x + ox) > G or abs(y + oy) > G for x, y in P): ox = oy = 0
+    move = lambda p: (p[0] + ox, p[1] + oy)
+    return chart_at(rnd, [move(p) for p in P]), [q for p in between for q in around(move(p))]
+
+
+def nearly_a_circle(rnd):
+    """Tests on a large circle, each perhaps one step off it: loads at them and about the middle."""
+    ring = large_circle(rnd)
+    off = lambda n: max(-G, min(G, n + rnd.choice([0, 0, 1, -1])))
+    P = sorted({(off(x), off(y)) for x, y in rnd.sample(ring, min(len(ring), rnd.choice([5, 6, 8, 12, 24, 48])))})
+    anywhere = [(rnd.randint(-9000, 9000), rnd.randint(-9000, 9000)) for _ in range(20)]
+    return chart_at(rnd, P), around((0, 0), 2) + anywhere + [q for p in rnd.sample(P, 5) for q in around(p)]
+
+
+def corner_needle(rnd):
+    """Tests at the grid's corners and next to its diagonals: the longest needles that it has, with loads at their ends and along them."""
+    rim = [-G, -G + 1, G - 1, G]
+    near = lambda n: max(-G, min(G, n + rnd.choice([0, 1, -1])))
+
+    def test():
+        if rnd.random() < 0.5: return rnd.choice(rim), rnd.choice(rim)
+        t = rnd.randint(-G, G)
+        return near(t), near(rnd.choice([t, -t]))
+
+    P = sorted({test() for _ in range(rnd.randint(3, 7))})
+    along = [q for t in rnd.sample(range(-G, G), 10) for q in ((t, t), (t, -t), (t, t + 1), (t + 1, t))]
+    return chart_at(rnd, P), along + [q for p in P + [(0, 0)] for q in around(p)]
+
+
+def small_lattice(rnd):
+    """A small chart with every lattice load in and next to its box, and each hull vertex's out half-edge the outer one."""
+    w, h = rnd.randint(2, 5), rnd.randint(2, 5)
+    c = chart_at(rnd, [(i, j) for i in range(w + 1) for j in range(h + 1) if rnd.random() < 0.6])
+    if c:
+        for e in range(len(c.h)):
+            if c.face(e) == 0: c.v[c.org(e)][3] = e
+    return c, [(x, y) for x in range(-1, w + 2) for y in range(-1, h + 2)]
+
+
+def sweep(rnd):
+    """A large chart with loads next to its long edges, on them where they have lattice points, and one step off on both sides."""
+    P = {(rnd.randint(-G, G), rnd.randint(-G, G)) for _ in range(rnd.randint(100, 128))}
+    c = chart_at(rnd, sorted(P))
+    length = lambda e: max(abs(c.frm(e)[k] - c.to(e)[k]) for k in (0, 1))
+    q = []
+    for e in sorted(range(0, len(c.h), 2), key=length)[-60:]:
+        t = rnd.random()
+        q += around(tuple(round(a + t * (b - a)) for a, b in zip(c.frm(e), c.to(e))))
+    return c, q
+
+
+def straight_side(rnd):
+    """A straight hull side with many tests on it: loads on it and on its line beyond."""
+    n = rnd.randint(3, 20)
+    dx, dy = rnd.choice([(2, 0), (0, 3), (2, 4), (6, 2), (30, 40), (400, 0), (400, 200)])
+    start = -(n * dx) // 2, -(n * dy) // 2
+    side_tests = [(start[0] + i * dx, start[1] + i * dy) for i in range(n + 1)]
+    apart = lambda d: d * rnd.randint(1, 9) + rnd.randint(-3, 3)
+    P = list(dict.fromkeys(side_tests + [(apart(-dy), apart(dx)) for _ in range(rnd.randint(1, 4))]))
+    g = math.gcd(dx, dy)
+    return chart_at(rnd, P), [(start[0] + dx // g * i, start[1] + dy // g * i) for i in range(-3, n * g + 4)]
+
+
+def large_fan(rnd):
+    """A vertex of the largest degrees, in the middle, and values at both ends of their range: the largest sums of a gradient."""
+    r, n = rnd.choice([9000, 9999]), rnd.randint(40, 126)
+    rim = [(round(r * math.cos(2 * math.pi * i / n)), round(r * math.sin(2 * math.pi * i / n))) for i in range(n)]
+    P = list(dict.fromkeys([(0, 0)] + rim))
+    vals = [1000000 * (i % 2) for i in range(len(P))] if rnd.random() < 0.5 else [rnd.choice([0, 1000000]) for _ in P]
+    return chart_at(rnd, P, vals), around((0, 0), 2) + [(rnd.randint(-r, r), rnd.randint(-r, r)) for _ in range(20)]
+
+
+# letter, how many charts in a hundred accepted ones, and at least; the charts of t and v are large
+RIMS = [('p', arc, 10, 4), ('q', nearly_a_circle, 10, 4), ('r', corner_needle, 10, 4), ('s', small_lattice, 10, 4), ('t', sweep, 2, 2),
+        ('u', straight_side, 10, 4), ('v', large_fan, 2, 2)]
+
+
+def rims(rnd, write, accepted):
+    for letter, make, percent, least in RIMS:
+        for i in range(max(least, percent * accepted // 100)):
+            c = None
+            while c is None: c, q = make(rnd)
+            t = c.text()
+            n = refusal(t)
+            assert n == 0, (letter, n)
+            q = sorted({p for p in q if max(map(abs, p)) <= G + 1})
+            rnd.shuffle(q)
+            p = '%s%04d' % (letter, i)
+            write(p, 'chart.txt', t)
+            write(p, 'expect.txt', '0 %s\n' % make.__name__.replace('_', ' '))
+            write(p, 'queries.txt', query_text(q[:400]))
+            write(p, 'log.txt', whole_log(entries(rnd, q, 30, 2)))
 
 
 # ---------------------------------------------------------------- damage
@@ -538,7 +675,7 @@ def fixed(rnd, write):
     ok = '       1       0       2       3       1\n'
     bad = '       1       0       2       3      +1\n'
     logs = ['', ok, ok * 512, ok * 513, ok * 513 + '\n', ok * 512 + '\n', bad, ok * 511 + bad, ok * 512 + bad, bad + '\n', ok[:-1], ok[:-1] + '\r', '\n',
-            ''.join('%8d%8d%8d%8d%8d\n' % e for e in (
+            whole_log((
                 (1, 0, G + 1, 0, 4), (1, 0, G + 1, 0, 1), (1, 0, 0, -G - 1, 3), (1, 2, G + 1, 0, 1), (0, 0, G + 1, 0, 1), (3, 0, 0, 0, 0), (1, 0, 50, 50, 0), (1, 0, 50, 50, 1),
                 (2, 0, G + 1, 0, 0), (2, 0, 0, 0, 1), (2, 2, 0, 0, 0), (2, -1, 0, 0, 0), (2, 1, 0, 0, 0), (1, 1, 10, 0, 3), (1, 1, 3, 3, 2), (2, 1, 0, 0, 0),
                 (99999999, 99999999, 99999999, 99999999, 99999999), (-9999999, 0, 0, 0, 0)))]
@@ -557,8 +694,8 @@ def fixed(rnd, write):
         write(p, 'rooms.txt', '%d\n%d\n' % (len(c.h) - 1, len(c.h)))
         if n == 0:
             q = queries(rnd, c)
-            write(p, 'queries.txt', ''.join('%d %d\n' % x for x in q))
-            write(p, 'log.txt', ''.join(''.join('%8d' % x for x in e) + '\n' for e in entries(rnd, q, 512, 2)))
+            write(p, 'queries.txt', query_text(q))
+            write(p, 'log.txt', whole_log(entries(rnd, q, 512, 2)))
             write(p, 'batch.txt', batch_text(rnd, q))
 
     def inside(n):  # hull of three: 2n - 5 inner faces
@@ -594,7 +731,7 @@ def fixed(rnd, write):
         write(p, 'chart.txt', c.text())
         write(p, 'expect.txt', '%d %s\n' % (refusal(c.text()), note))
         write(p, 'rooms.txt', '%d\n%d\n' % (len(c.h) - 1, len(c.h)))
-        write(p, 'queries.txt', ''.join('%d %d\n' % x for x in q))
+        write(p, 'queries.txt', query_text(q))
 
     ring = sorted(((11 * x, 11 * y) for x, y in lattice_circle(801125)), key=lambda a: math.atan2(a[1], a[0]))
     fan = {}
@@ -603,16 +740,40 @@ def fixed(rnd, write):
     curve = [(64 * i, 3000 - i * (i + 1) // 2) for i in range(125)] + [(-8500, 8500), (2000, 5500), (9500, -7000)]
     widest('f23', curve, delaunay(curve, random.Random(1)), [(-1500, 2500)], '128 vertices, 756 half-edges, 252 faces, 126 of them to open')
 
+    straight(write)
+
+
+def straight(write):
+    """Corners on a line: of a hull side, which is accepted, and of an inner face, which 9 refuses. The same numbering in every suite."""
+    rnd = random.Random(1)
+
+    def put(p, P, faces, q, note):
+        opp = {}
+        for a, b, c in faces: opp[a, b], opp[b, c], opp[c, a] = c, a, b
+        t = chart_of(P, opp, [100 * (i + 1) for i in range(len(P))], rnd).text()
+        n = refusal(t)
+        write(p, 'chart.txt', t)
+        write(p, 'expect.txt', '%d %s\n' % (n, note))
+        if n == 0: write(p, 'queries.txt', query_text(q))
+        write(p, 'log.txt', whole_log((1, 0, *x, m) for x in q for m in (1, 2, 3)))
+
+    along = [(x, 0) for x in (-1, 0, 1, 3, 6, 9, 12, 13)] + [(6, 1), (6, -1), (5, 1), (7, 2)]
+    put('f24', [(0, 0), (3, 0), (4, 0), (9, 0), (12, 0), (6, 5)], [(i, i + 1, 5) for i in range(4)], along, 'a hull side through five vertices')
+    for p, y, note in (('f25', 0, 'an inner face whose corners lie on a line'), ('f26', 1, 'the same, its middle corner one step inside'),
+                       ('f27', -1, 'the same, one step outside')):
+        put(p, [(0, 0), (6, y), (12, 0), (6, 9)], [(0, 1, 3), (1, 2, 3), (1, 0, 2)], along, note)
+
 
 def numbered(write, name, rooms):
-    """Puts charts' bytes as cases, numbered from 0 on."""
-    number = itertools.count()
+    """Puts charts' bytes as cases, numbered from 0 on; the same queries in every suite."""
+    number, rnd = itertools.count(), random.Random(1)
 
     def put(b, note):
-        p = name % next(number)
+        p, n = name % next(number), refusal(b)
         write(p, 'chart.txt', b)
         write(p, 'rooms.txt', rooms)
-        write(p, 'expect.txt', '%d %s\n' % (refusal(b), note))
+        write(p, 'expect.txt', '%d %s\n' % (n, note))
+        if n == 0: write(p, 'queries.txt', query_text(queries(rnd, parse(b)[1])[:6]))
 
     return put
 
@@ -723,8 +884,8 @@ def hunt(rnd, write):
         if qs:
             write('h%04d' % k, 'chart.txt', c.text())
             write('h%04d' % k, 'expect.txt', '0 values at the rims of the charge\n')
-            write('h%04d' % k, 'queries.txt', ''.join('%d %d\n' % q for q in qs))
-            write('h%04d' % k, 'log.txt', ''.join('%8d%8d%8d%8d%8d\n' % (1, 0, *q, 3) for q in qs))
+            write('h%04d' % k, 'queries.txt', query_text(qs))
+            write('h%04d' % k, 'log.txt', whole_log((1, 0, *q, 3) for q in qs))
             bends = ' '.join('1 0 %d %d 3' % q for q in qs)  # on a section whose count is full, and after its splice
             write('h%04d' % k, 'batch.txt', '1 0 %d\n0 %d\n' % (len(qs), 10 ** 12) + '0 0\n' * 15 + bends + '\n%d 0\n2 0 0 0 0 %s\n' % (len(qs) + 1, bends))
             k += 1
@@ -735,6 +896,7 @@ def main():
     d, seed, na, nd = sys.argv[1], int(sys.argv[2]), int(sys.argv[3]), int(sys.argv[4])
     maxv = int(sys.argv[5]) if len(sys.argv) > 5 else 128
     rnd = random.Random(seed)
+    loads = random.Random('loads %d' % seed)  # of their own, as lists of batches and rims: the other families stay as they were
     kinds, refusals = collections.Counter(), collections.Counter()
     clauses = collections.Counter()
     def write(p, f, b):
@@ -755,7 +917,7 @@ def main():
         q = queries(rnd, c)
         write(p, 'chart.txt', t)
         write(p, 'expect.txt', '0 %s\n' % kind)
-        write(p, 'queries.txt', ''.join('%d %d\n' % x for x in q))
+        write(p, 'queries.txt', query_text(q))
         write(p, 'log.txt', log_text(rnd, entries(rnd, q, rnd.randint(0, 30), 2)))
         write(p, 'batch.txt', batch_text(rnd, q))
         write(p, 'rooms.txt', '%d\n%d\n%d\n' % (len(c.h) - 1, len(c.h), 756))
@@ -772,14 +934,18 @@ def main():
         q = queries(rnd, c, 8)
         write(p, 'log.txt', log_text(rnd, entries(rnd, q, rnd.randint(0, 3), 2)))
         write(p, 'batch.txt', batch_text(rnd, q))
-    rnd = random.Random('lists of batches %d' % seed)  # of its own: the other families stay as they were
+        if n == 0: write(p, 'queries.txt', query_text(queries(loads, parse(b)[1])))
+    rnd = random.Random('lists of batches %d' % seed)
     for i in range(na):
         kind, c = accepted(rnd, min(maxv, rnd.choice([3, 5, 12, 128])))
         b = c.text() if i % 5 else damaged(rnd, c)[1]
         p = 'b%05d' % i
         write(p, 'chart.txt', b)
         write(p, 'expect.txt', '%d a list of batches, %s\n' % (refusal(b), kind))
-        write(p, 'batch.txt', list_text(rnd, queries(rnd, c, 8)))
+        q = queries(rnd, c, 8)
+        write(p, 'batch.txt', list_text(rnd, q))
+        if refusal(b) == 0: write(p, 'queries.txt', query_text(queries(loads, parse(b)[1])))
+    rims(random.Random('rims %d' % seed), write, na)
     print('accepted:', dict(kinds))
     print('damaged, by refusal:', dict(sorted(refusals.items())))
     print('clauses of 7:', dict(clauses.most_common(40)))

@@ -36,6 +36,7 @@ M = [
     ('cell corners swapped', "centre(rel(c.to(h)), rel(c.frm(h)), (0, 0))", "centre(rel(c.frm(h)), rel(c.to(h)), (0, 0))"),
     ('cell not about the query', "centre(rel(c.to(h)), rel(c.frm(h)), (0, 0))", "centre((0, 0), rel(c.to(h)), rel(c.frm(h)))"),
     ('areas summed together', "pos, neg = pos + last[0] * m[1], neg + last[1] * m[0]", "pos = pos + (last[0] * m[1] - last[1] * m[0])"),
+    ('weights: the neighbours counted as opened', "return (e[1], w) if", "return (len(w), w) if"),
     ('weights by the inverse', "return [(v, div(a, total)) for v, a in areas]", "return [(v, a * div(1.0, total)) for v, a in areas]"),
     ('area not signed', "area = pos - neg", "area = abs(pos - neg)"),
     ('gradient loses -0', "return -float(s[0]) / float(s[2]), -float(s[1]) / float(s[2])", "return 0.0 - float(s[0]) / float(s[2]), 0.0 - float(s[1]) / float(s[2])"),

@@ -48,8 +48,10 @@ def check(c, q, st):
     assert steps == 3 * k
     st['inside'] = st.get('inside', 0) + 1
     st['opened'] = st.get('opened', 0) + k
-    st['minus zero weights'] = st.get('minus zero weights', 0) + sum(1 for _, w in natural(c, q) if w == 0 and math.copysign(1, w) < 0)
-    st['negative weights'] = st.get('negative weights', 0) + sum(1 for _, w in natural(c, q) if w < 0)
+    opened, weights = natural(c, q)
+    assert opened == k
+    st['minus zero weights'] = st.get('minus zero weights', 0) + sum(1 for _, w in weights if w == 0 and math.copysign(1, w) < 0)
+    st['negative weights'] = st.get('negative weights', 0) + sum(1 for _, w in weights if w < 0)
 
 
 if __name__ == '__main__':

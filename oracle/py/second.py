@@ -246,9 +246,15 @@ def barycentric(c, q):
 
 
 def natural(c, q):
+    """(opened, weights) or a refusal number."""
     e = natural_edges(c, q)
     if not isinstance(e, tuple): return e
-    es = e[2]
+    w = shares(c, q, e[2])
+    return (e[1], w) if isinstance(w, list) else w
+
+
+def shares(c, q, es):
+    """The natural weights by the listed edges, or 15."""
     if len(es) == 1: return [(c.org(es[0]), 1.0)]
     if len(es) == 2: return two_points(c, es[0], q)
     rel = lambda p: (p[0] - q[0], p[1] - q[1])
@@ -297,7 +303,8 @@ def gradient(c, i):
 def value(c, grads, q, method):
     """A float, or a refusal as an int."""
     w = barycentric(c, q) if method == 1 else natural(c, q)
-    if not isinstance(w, list): return w
+    if isinstance(w, int): return w
+    if method > 1: w = w[1]
     if method < 3:
         t = 0.0
         for v, x in w: t = t + float(c.v[v][2]) * x
@@ -354,7 +361,10 @@ def answers(b, queries, rooms=(), only=None):
     def put(kind, text):
         if only is None or kind in only: o.append('%s %s' % (kind, text()))
 
-    wt = lambda w: ' '.join([str(len(w))] + ['%d %s' % (v, bits(x)) for v, x in w]) if isinstance(w, list) else 'refused %d' % w
+    def weights(w):
+        if isinstance(w, int): return 'refused %d' % w
+        opened, w = ([w[0]], w[1]) if isinstance(w, tuple) else ([], w)
+        return ' '.join(map(str, opened + [len(w)] + ['%d %s' % (v, bits(x)) for v, x in w]))
     def place(c, q):
         kind, n = locate(c, q)
         return 'refused 15' if kind == 'none' else '%s %d' % (kind, n)
@@ -379,9 +389,9 @@ def answers(b, queries, rooms=(), only=None):
         grid = on_grid(q)
         put('query', lambda: '%d %d' % q)
         put('location', lambda: place(c, q) if grid else 'refused 13')
-        put('barycentric', lambda: wt(barycentric(c, q) if grid else 13))
+        put('barycentric', lambda: weights(barycentric(c, q) if grid else 13))
         put('edges', lambda: edges(c, q) if grid else 'refused 13')
-        put('natural', lambda: wt(natural(c, q) if grid else 13))
+        put('natural', lambda: weights(natural(c, q) if grid else 13))
         for m in (1, 2, 3): put('value', lambda: charged(c, q, m) if grid else '%d refused 13' % m)
     return '\n'.join(o + [''])
 
@@ -462,7 +472,7 @@ def one_batch(t, b, room, ent):
 def suite(d, first_only=False, only=None):
     cases = lines = 0
     bad = []
-    for name in sorted(os.listdir(d), key=lambda s: ('xgkhlbdaf'.find(s[0]), s)):
+    for name in sorted(os.listdir(d), key=lambda s: ('xgkhlsubdrqpvatf'.find(s[0]), s)):
         p = os.path.join(d, name)
         if not os.path.isdir(p): continue
         rd = lambda f: open(os.path.join(p, f), 'rb').read() if os.path.exists(os.path.join(p, f)) else None

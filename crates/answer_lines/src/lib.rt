@@ -106,7 +106,9 @@ pub fn edges(found: NaturalNeighbors, list: &[u64]) {
 pub fn natural_weights(found: NaturalNeighbors, owners: &[u64], shares: &[f64]) {
     word(b"natural ");
     match found {
-        NaturalNeighbors::Listed(count, _) => {
+        NaturalNeighbors::Listed(count, opened) => {
+            natural(opened);
+            word(b" ");
             natural(count);
             pairs(owners, shares, count as usize);
             word(b"\n");

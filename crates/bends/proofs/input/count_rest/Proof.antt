@@ -19,14 +19,26 @@ loop-holds c = (refl, omega arith)
 read-some-requires : tie.Need-read-some-requires Inv-loop μ-loop
 read-some-requires c κs = search needs
 
-sub-result : tie.Need-sub-result Inv-loop μ-loop
-sub-result c = search needs
+failure-requires : tie.Need-failure-requires Inv-loop μ-loop
+failure-requires c κs = search needs
 
 same-length : tie.Need-same-length Inv-loop μ-loop
 same-length c = search needs
 
 returns : tie.Need-returns Inv-loop μ-loop
 returns c = search needs
+
+sub-came : tie.Need-sub-came Inv-loop μ-loop
+sub-came c = search needs
+
+came-requires : tie.Need-came-requires Inv-loop μ-loop
+came-requires c κs = search needs
+
+same-length-2 : tie.Need-same-length-2 Inv-loop μ-loop
+same-length-2 c = search needs
+
+returns-2 : tie.Need-returns-2 Inv-loop μ-loop
+returns-2 c = search needs
 
 sub-left : tie.Need-sub-left Inv-loop μ-loop
 sub-left c = search needs
@@ -37,11 +49,14 @@ loop-less c = search needs
 loop-again : tie.Need-loop-again Inv-loop μ-loop
 loop-again c = search needs
 
-same-length-2 : tie.Need-same-length-2 Inv-loop μ-loop
-same-length-2 c = search needs
+came-requires-2 : tie.Need-came-requires-2 Inv-loop μ-loop
+came-requires-2 c κs = search needs
 
-returns-2 : tie.Need-returns-2 Inv-loop μ-loop
-returns-2 c = search needs
+same-length-3 : tie.Need-same-length-3 Inv-loop μ-loop
+same-length-3 c = search needs
+
+returns-3 : tie.Need-returns-3 Inv-loop μ-loop
+returns-3 c = search needs
 
 pub count-rest-spec : {M : Type 1} → statement M
 count-rest-spec =
@@ -51,11 +66,16 @@ count-rest-spec =
     μ-loop
     loop-holds
     read-some-requires
-    sub-result
+    failure-requires
     same-length
     returns
+    sub-came
+    came-requires
+    same-length-2
+    returns-2
     sub-left
     loop-less
     loop-again
-    same-length-2
-    returns-2)
+    came-requires-2
+    same-length-3
+    returns-3)

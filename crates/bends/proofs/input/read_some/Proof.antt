@@ -9,21 +9,21 @@ use Rattle.bends.proofs.input.read_some.Tie as tie
 least-requires : tie.Need-least-requires
 least-requires c κs = search needs
 
-slice-relend-prefix-read-full : tie.Need-slice-relend-prefix-read-full
-slice-relend-prefix-read-full c = search needs
+slice-relend-prefix-fill : tie.Need-slice-relend-prefix-fill
+slice-relend-prefix-fill c = search needs
 
-slice-aggregate-read-full : tie.Need-slice-aggregate-read-full
-slice-aggregate-read-full c = simp length-take (omega arith)
+slice-aggregate-fill : tie.Need-slice-aggregate-fill
+slice-aggregate-fill c = simp length-take (omega arith)
 
-read-full-requires : tie.Need-read-full-requires
-read-full-requires c κs = search needs
+fill-requires : tie.Need-fill-requires
+fill-requires c κs = search needs
 
 same-length : tie.Need-same-length
 same-length c = search needs
 
 returns : tie.Need-returns
 returns c =
-    let f = c .before .before .read-full in
+    let f = c .before .before .fill in
     let n = c .before .before .before .before .least .result in
     let s = c .before .before .before .before .before .before .args .space .now in
     let k : length (f .last .1 .0) ≡ length (take n s) = f .kept .1 .0 in
@@ -34,8 +34,8 @@ read-some-spec =
     tie.close
     (tie.spec
     least-requires
-    slice-relend-prefix-read-full
-    slice-aggregate-read-full
-    read-full-requires
+    slice-relend-prefix-fill
+    slice-aggregate-fill
+    fill-requires
     same-length
     returns)
