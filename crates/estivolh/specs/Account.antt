@@ -111,3 +111,8 @@ module _ (b : Book) (bytes : List ℕ) (es : List ℤ) (lent : List ℕ) where
       sym (ap (λ (t : Bool). byRefusal queries (cond t 1 (cond (badSlices (length es) (length lent)) 2 (chartRefusalOf bytes))) b bytes es lent) e
       ∙ (ap (λ (t : Bool). byRefusal queries (cond t 2 (chartRefusalOf bytes)) b bytes es lent) f
       ∙ (ap (λ (k : Loaded). byRefusal queries (refusalOf k) b bytes es lent) q ∙ loaded-batch l q z)))
+
+-- ---- so says the contract of `interpolate`: a bend in a batch costs what a caller can ask for
+pub queries-are-interpolate : (bytes : List ℕ) (method x y : ℤ)
+    → Rattle.query.specs.Value.valueSays (queries bytes method (record { x = x; y = y })) ≡ Rattle.query.specs.Value.interpolateOf bytes method x y
+queries-are-interpolate bytes method x y = refl
