@@ -1,0 +1,2 @@
+pub mod ChartB
+pub mod Answers
