@@ -65,13 +65,14 @@ pub record Outcome : Type 0 where
   pub owners : List ℕ
   pub weights : List Float
 
+-- for the contract alone
 abbrev pub outcome : ℕ → List ℕ → List Float → Outcome
 outcome refusal owners weights = record { refusal = refusal; owners = owners; weights = weights }
 
 -- 15 and the slices as they were; or 0, the vertices and the weights, and what stood past the last
 unfoldable pub settled : List ℕ → Shares → List ℕ → List Float → Outcome
-settled vs broken owners weights = outcome 15 owners weights
-settled vs (shares ws) owners weights = outcome 0 (vs ++ drop (length vs) owners) (ws ++ drop (length ws) weights)
+settled vs broken owners weights = record { refusal = 15; owners = owners; weights = weights }
+settled vs (shares ws) owners weights = record { refusal = 0; owners = vs ++ drop (length vs) owners; weights = ws ++ drop (length ws) weights }
 
 -- each weight belongs to the vertex where the listed edge starts
 abbrev pub naturalWeightsOf : Chart → Place → List ℕ → List ℕ → List Float → Outcome

@@ -69,10 +69,11 @@ pub record Outcome : Type 0 where
   pub answer : Counts
   pub slice : List ℕ
 
+-- for the contracts alone
 abbrev pub outcome : Counts → List ℕ → Outcome
 outcome r s = record { answer = r; slice = s }
 
 -- the edges in front, the rest of the slice as it was
 unfoldable pub written : Neighbors → List ℕ → Outcome
 written n lent =
-    outcome (counts (length (n .edges)) (n .opened)) (n .edges ++ drop (length (n .edges)) lent)
+    record { answer = counts (length (n .edges)) (n .opened); slice = n .edges ++ drop (length (n .edges)) lent }
