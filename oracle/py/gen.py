@@ -384,10 +384,11 @@ def straight_side(rnd):
     n = rnd.randint(3, 20)
     dx, dy = rnd.choice([(2, 0), (0, 3), (2, 4), (6, 2), (30, 40), (400, 0), (400, 200)])
     start = -(n * dx) // 2, -(n * dy) // 2
-    side_tests = [(start[0] + i * dx, start[1] + i * dy) for i in range(n + 1)]
-    apart = lambda d: d * rnd.randint(1, 9) + rnd.randint(-3, 3)
-    P = list(dict.fromkeys(side_tests + [(apart(-dy), apart(dx)) for _ in range(rnd.randint(1, 4))]))
-    g = math.gcd(dx, dy)
+    P = [(start[0] + i * dx, start[1] + i * dy) for i in range(n + 1)]
+    for _ in range(rnd.randint(1, 4)):  # the others strictly left of it: up to nine steps across, three along, and perhaps one more
+        k, j = rnd.randint(1, 9), rnd.randint(-3, 3)
+        P.append((j * dx - k * dy + rnd.randint(-1, 1), j * dy + k * dx + rnd.randint(-1, 1)))
+    P, g = sorted(set(P)), math.gcd(dx, dy)
     return chart_at(rnd, P), [(start[0] + dx // g * i, start[1] + dy // g * i) for i in range(-3, n * g + 4)]
 
 

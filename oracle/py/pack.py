@@ -40,7 +40,7 @@ def verdict(answers):
 
 
 def pack(d, out, patterns, texts):
-    stdin, stdout, packed, count = b'', b'', '', collections.Counter()
+    stdin, stdout, packed, count = [], [], [], collections.Counter()
     for name in names(d):
         if not any(fnmatch.fnmatch(name, p) for p in patterns or ['*']): continue
         parts = [read(d, name, t) if t in texts else b'' for t in TEXTS]
@@ -48,15 +48,15 @@ def pack(d, out, patterns, texts):
         # expect.txt is by the second implementation: the two must agree before they judge a third
         expect = read(d, name, 'expect.txt').decode().split()
         if expect and expect[0] != verdict(answers): sys.exit('%s: the oracle says %s and gen.py %s' % (name, verdict(answers), expect[0]))
-        stdin += b'%8d%8d%8d%8d%8d\n' % tuple(map(len, parts)) + b''.join(parts)
-        stdout += answers + (read(d, name, 'batch-answer.txt') if parts[3] else b'') + (read(d, name, 'bends.txt') if parts[4] else b'')
-        packed += name + '\n'
+        stdin += [b'%8d%8d%8d%8d%8d\n' % tuple(map(len, parts))] + parts
+        stdout += [answers, read(d, name, 'batch-answer.txt') if parts[3] else b'', read(d, name, 'bends.txt') if parts[4] else b'']
+        packed.append(name)
         count[int(verdict(answers))] += 1
     os.makedirs(out, exist_ok=True)
-    write(stdin, out, 'stdin')
-    write(stdout, out, 'stdout')
-    write(packed.encode(), out, 'names')
-    print('%d cases, %d bytes; verdicts: %s' % (sum(count.values()), len(stdin), ', '.join('%d: %d' % p for p in sorted(count.items()))))
+    write(b''.join(stdin), out, 'stdin')
+    write(b''.join(stdout), out, 'stdout')
+    write('\n'.join(packed + ['']).encode(), out, 'names')
+    print('%d cases, %d bytes; verdicts: %s' % (sum(count.values()), sum(map(len, stdin)), ', '.join('%d: %d' % p for p in sorted(count.items()))))
 
 
 def limit(d, n, m):

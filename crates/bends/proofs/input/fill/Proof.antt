@@ -1,6 +1,5 @@
 -- `input::fill` is safe and ends: each turn reads some of what is left of the room.
 use Prim.Native.Nat.{_-_, _≤_}
-use mathlib.Core.Bool.{true, false}
 use mathlib.Core.Path.{_≡_, refl}
 use lib.ListN.{length}
 use native.Mathlib.Omega.{arith}

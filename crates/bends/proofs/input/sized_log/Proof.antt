@@ -1,7 +1,6 @@
 -- `input::sized_log` meets its contract: all of the log is kept, or it is counted to its end, or its reading failed.
-use Prim.Native.Nat.{_≤_, _<_}
-use mathlib.Core.Logic.{_⊎_, inl, inr}
-use mathlib.Core.Path.{_≡_, refl}
+use mathlib.Core.Logic.{inl, inr}
+use mathlib.Core.Path.{refl}
 use native.Mathlib.Omega.{arith}
 use native.Mathlib.Nat.{le-refl}
 use borrow.Author.Needs.{needs}
