@@ -1,0 +1,5 @@
+pub mod Batch
+pub mod Decimal
+pub mod Header
+pub mod Query
+pub mod Room
