@@ -3,14 +3,11 @@
 ghost use mathlib.Core.Path.{_≡_};
 ghost use Prim.Native.Nat.{_≤_};
 ghost use lib.ListN.{length};
+use batch_text::Opening;
+use batch_text::Two;
 use book::Book;
 use book::Returned;
-use case_text::batches;
-use case_text::batches::Opening;
-use case_text::batches::Two;
-use case_text::decimal;
 use case_text::queries;
-use text::Field;
 
 // So many bytes fill the buffer of a batch text: it was cut there, or may have been.
 const CUT: usize = 65536;
@@ -52,7 +49,7 @@ fn first(chart: &[u8], text: &[u8]) -> Step
     ensures { λ r. ⌜ r .at ≤ length (now (text .entry)) ⌝ }
 {
     let n = queries::before_first(text, b'\n');
-    let line = batches::read_opening(&text[..n]);
+    let line = batch_text::read_opening(&text[..n]);
     match line {
         Opening::Begins(sections, retired, room) => with_book(
             chart,
@@ -86,7 +83,7 @@ fn with_book(chart: &[u8], text: &[u8], n: usize, sections: u64, retired: u64, r
 {
     let mut wear = [0u64; 16];
     let mut bends = [0u64; 16];
-    let at = columns(text, n, &mut wear, &mut bends);
+    let at = batch_text::columns(text, n, &mut wear, &mut bends);
     let book = Book {
         sections,
         wear,
@@ -96,56 +93,13 @@ fn with_book(chart: &[u8], text: &[u8], n: usize, sections: u64, retired: u64, r
     batch(chart, text, at, book, room)
 }
 
-// Reads a line for each of the two columns' elements, after the line end at n. Where the last of them ends; the text's length where one is
-// broken.
-fn columns(text: &[u8], n: usize, wear: &mut [u64], bends: &mut [u64]) -> usize
-    requires { ⌜ n ≤ length (now text) ⌝ }
-    ensures { λ r. ⌜ r ≤ length (now (text .entry)) ⌝ }
-{
-    let mut at = n;
-    let mut i = 0;
-    while i < wear.len() && i < bends.len() {
-        let end = row(text, at, wear, bends, i);
-        at = end;
-        i += 1;
-    }
-    at
-}
-
-// One line of the book, after the line end at n.
-fn row(text: &[u8], n: usize, wear: &mut [u64], bends: &mut [u64], i: usize) -> usize
-    requires { ⌜ n ≤ length (now text) ⌝ }
-    ensures { λ r. ⌜ r ≤ length (now (text .entry)) ⌝ }
-{
-    if n == text.len() {
-        return n;
-    }
-    let at = n + 1;
-    let end = batches::line_end(text, at);
-    let two = batches::read_two(&text[at..end]);
-    match two {
-        Two::Both(a, b) => {
-            put(wear, i, a);
-            put(bends, i, b);
-            end
-        }
-        Two::NoTwo => text.len(),
-    }
-}
-
-fn put(list: &mut [u64], i: usize, n: u64) {
-    if i < list.len() {
-        list[i] = n;
-    }
-}
-
 // A further batch: its line of room and cut begins at `at`.
 fn further(chart: &[u8], text: &[u8], at: usize, book: Book) -> Step
     requires { ⌜ at ≤ length (now text) ⌝ }
     ensures { λ r. ⌜ r .at ≤ length (now (text .entry)) ⌝ }
 {
-    let end = batches::line_end(text, at);
-    let two = batches::read_two(&text[at..end]);
+    let end = batch_text::line_end(text, at);
+    let two = batch_text::read_two(&text[at..end]);
     match two {
         Two::Both(room, cut) => {
             let kept = chart.len() - case_text::least(cut as usize, chart.len());
@@ -164,7 +118,7 @@ fn batch(chart: &[u8], text: &[u8], n: usize, book: Book, room: u64) -> Step
         return Step { at: 0, book };
     }
     let at = n + 1;
-    let end = batches::line_end(text, at);
+    let end = batch_text::line_end(text, at);
     if end == text.len() {
         return Step { at: 0, book };
     }
@@ -176,7 +130,7 @@ fn entries(chart: &[u8], line: &[u8], at: usize, book: Book, room: u64) -> Step
     ensures { λ r. ⌜ r .at ≤ at ⌝ }
 {
     let mut list = [0i64; 2560];
-    let count = read_entries(line, &mut list);
+    let count = batch_text::read_entries(line, &mut list);
     if list.len() < count {
         return Step { at: 0, book };
     }
@@ -198,35 +152,4 @@ fn answer(chart: &[u8], list: &[i64], count: usize, book: Book, room: u64) -> Bo
 fn call(book: Book, chart: &[u8], entries: &[i64], answers: &mut [u64], room: u64) -> Returned {
     let n = case_text::least(room as usize, answers.len());
     estivolh::batch(book, chart, entries, &mut answers[..n])
-}
-
-// Reads the numbers of a line, with a space between any two. How many; more than `space` holds where the line is broken or has more.
-fn read_entries(line: &[u8], space: &mut [i64]) -> usize {
-    if line.len() == 0 {
-        return 0;
-    }
-    let mut count = 0;
-    let mut at = 0;
-    while at <= line.len() && count <= space.len() {
-        let n = batches::line_space(line, at);
-        count = put_entry(decimal::decimal(&line[at..n]), space, count);
-        at = n + 1;
-    }
-    count
-}
-
-// Puts a number at `count`: the count after it. Where it is malformed, or there is no place, one that is above the length.
-fn put_entry(number: Field, space: &mut [i64], count: usize) -> usize {
-    let broken = usize::MAX;
-    match number {
-        Field::Number(z) => {
-            if count < space.len() {
-                space[count] = z;
-                count + 1
-            } else {
-                broken
-            }
-        }
-        Field::Malformed => broken,
-    }
 }

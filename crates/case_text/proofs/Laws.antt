@@ -19,11 +19,7 @@ use Rattle.text.specs.Field.{valueOf}
 use Rattle.text.specs.Natural.{figures}
 use Rattle.text.specs.declared.Field.{Field}
 use Rattle.text.specs.declared.Field.the-variants.{Number, Malformed}
-use Rattle.case_text.specs.declared.decimal.Natural.{Natural}
 use Rattle.case_text.specs.declared.decimal.Natural.the-variants.{Whole, NoNumber}
-use Rattle.case_text.specs.declared.batches.Two.the-variants.{NoTwo}
-use Rattle.case_text.specs.declared.batches.Opening.the-variants.{NoOpening}
-use Rattle.case_text.specs.Batch.{bothOf, twoOf, openingIn, openingOf}
 use Rattle.case_text.specs.declared.headers.Header.the-variants.{Broken}
 use Rattle.case_text.specs.declared.queries.Query.the-variants.{NoQuery}
 use Rattle.case_text.specs.Decimal.{mostDigits, noMagnitude, digitsMake, magnitudeOf, aboveOf, belowOf, decimalOf, wholeOf, naturalOf}
@@ -172,38 +168,3 @@ query-one s e =
 pub query-two : (s : List ℕ) (n : ℕ) → untilOf 32 s ≡ n → queryOf s ≡ pairOf (decimalOf (take n s)) (decimalOf (drop (n + 1) s))
 unfolding queryOf
 query-two s n e = rw (e, add-one n) refl
-
--- ---- batches
-
--- A line with no second number.
-both-broken : (a : Natural) → bothOf a NoNumber ≡ NoTwo
-both-broken (Whole n) = refl
-both-broken NoNumber = refl
-
-pub two-one : (s : List ℕ) → untilOf 32 s ≡ length s → twoOf s ≡ NoTwo
-unfolding twoOf
-two-one s e =
-    let d : drop (suc (length s)) s ≡ [] = drop-of-length-le s {i = suc (length s)} (omega arith) in
-    rw (e, d, natural-empty) (both-broken (naturalOf (take (length s) s)))
-
-pub two-two : (s : List ℕ) (n : ℕ) → untilOf 32 s ≡ n → twoOf s ≡ bothOf (naturalOf (take n s)) (naturalOf (drop (n + 1) s))
-unfolding twoOf
-two-two s n e = rw (e, add-one n) refl
-
-two-empty : twoOf [] ≡ NoTwo
-two-empty = two-one [] (until-none 32)
-
--- A line with no further numbers.
-opening-broken : (a : Natural) → openingIn a NoTwo ≡ NoOpening
-opening-broken (Whole n) = refl
-opening-broken NoNumber = refl
-
-pub opening-one : (s : List ℕ) → untilOf 32 s ≡ length s → openingOf s ≡ NoOpening
-unfolding openingOf
-opening-one s e =
-    let d : drop (suc (length s)) s ≡ [] = drop-of-length-le s {i = suc (length s)} (omega arith) in
-    rw (e, d, two-empty) (opening-broken (naturalOf (take (length s) s)))
-
-pub opening-more : (s : List ℕ) (n : ℕ) → untilOf 32 s ≡ n → openingOf s ≡ openingIn (naturalOf (take n s)) (twoOf (drop (n + 1) s))
-unfolding openingOf
-opening-more s n e = rw (e, add-one n) refl

@@ -1,4 +1,3 @@
-pub mod Batch
 pub mod Decimal
 pub mod Header
 pub mod Query

@@ -2,7 +2,6 @@
 ghost use mathlib.Core.Path.{_≡_};
 ghost use Prim.Native.Nat.{min};
 
-pub mod batches;
 pub mod decimal;
 pub mod headers;
 pub mod queries;
