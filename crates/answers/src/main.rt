@@ -1,12 +1,7 @@
 // Prints the answers of the public calls for test cases, in the oracle's format (oracle/README.md): for each case folder among its
 // arguments or, with no argument, for each packed case on standard input.
-mod batches;
-mod case;
-mod decimal;
-mod folder;
-mod packed;
-mod queries;
-mod rooms;
+use cases::folder;
+use cases::packed;
 
 fn main() {
     let mut chart_space = io::large_buffer();

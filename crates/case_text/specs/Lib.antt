@@ -1,0 +1,4 @@
+pub mod Decimal
+pub mod Header
+pub mod Query
+pub mod Room
