@@ -1,21 +1,27 @@
--- Worked examples, computed from the definitions: 17 at the limit, the sums over a history, and two ropes. Assumes nothing.
+-- Worked examples, computed from the definitions, with 01's numbers written out: 12, 13 and 17 of an entry, the sums over a history, two ropes, and 1 and 2 of a
+-- call. Assumes nothing.
 use mathlib.Core.Path.{_≡_, refl}
-use mathlib.Core.List.{List, [], _∷_}
+use mathlib.Core.List.{List, [], _∷_, _++_}
 use mathlib.Core.Bool.{true, false, cond}
-use Prim.Native.Nat.{_+_}
+use Prim.Native.Nat.{ℕ, _+_}
 use lib.Dec.{eqb}
+use lib.ListN.{replicate}
 use lib.IntN.{ℤ, pos, negsuc}
 use lib.Ieee.{binary64, ofBits}
+use Rattle.whole.specs.First.{from}
 use Rattle.geometry.specs.Plane.{offGrid}
 use Rattle.ranges.specs.Ranges.{notBelow}
+use Rattle.reading.specs.Reading.{headOf, chartIn}
 use Rattle.book.specs.declared.Book.{Book}
+use Rattle.book.specs.declared.Returned.{Returned}
+use Rattle.book.specs.Books.{badBook, freshBook}
 use Rattle.entries.specs.declared.Entry.{Entry}
 use Rattle.entries.specs.declared.Ruling.{Ruling}
 use Rattle.entries.specs.declared.Ruling.the-variants.{Bend, Splice, Refused}
 use Rattle.entries.specs.Ruling.{meets17, with17, answerOf}
 use Rattle.values.specs.Value.Answer.{value}
 use Rattle.accounts.specs.Rulings.{Queries, entryRuling}
-use Rattle.accounts.specs.Batch.{bookAfter}
+use Rattle.accounts.specs.Batch.{bookAfter, badSlices, batchRefusal}
 use Rattle.accounts.specs.Tally.{charges, wearSum, bendCount}
 use Rattle.accounts.specs.Demand.{fresh}
 
@@ -142,4 +148,96 @@ account-rows =
       from-start = refl;
       all-charges = refl;
       same-book = refl;
+    }
+
+-- ---- rows 1 and 2
+-- a book of so many sections
+abbrev bookOf : ℕ → List ℕ → List ℕ → ℕ → Book
+bookOf s wear bends retired = record { sections = s; wear = wear; bends = bends; retired = retired }
+
+-- 16 numbers, all 0; the first, the second or the last of them n
+abbrev zeros : List ℕ
+zeros = 0 ∷ 0 ∷ 0 ∷ 0 ∷ 0 ∷ 0 ∷ 0 ∷ 0 ∷ 0 ∷ 0 ∷ 0 ∷ 0 ∷ 0 ∷ 0 ∷ 0 ∷ 0 ∷ []
+
+abbrev atFirst : ℕ → List ℕ
+atFirst n = n ∷ replicate 15 0
+
+abbrev atSecond : ℕ → List ℕ
+atSecond n = 0 ∷ n ∷ replicate 14 0
+
+abbrev atLast : ℕ → List ℕ
+atLast n = replicate 15 0 ++ (n ∷ [])
+
+abbrev returned : ℕ → ℕ → Returned
+returned r s = record { refusal = r; book = bookOf s zeros zeros 0 }
+
+pub record BookRows : Type 0 where
+  -- "A fresh book has s sections, all zero"
+  pub fresh-one : freshBook 1 ≡ returned 0 1
+  pub fresh-sixteen : freshBook 16 ≡ returned 0 16
+  -- "an s not 1 to 16 gets refusal 1 beside a book of 0 sections, all zero"
+  pub fresh-none : freshBook 0 ≡ returned 1 0
+  pub fresh-seventeen : freshBook 17 ≡ returned 1 0
+  -- 1: "sections not 1 to 16"
+  pub no-section : badBook (bookOf 0 zeros zeros 0) ≡ true
+  pub one-section : badBook (bookOf 1 zeros zeros 0) ≡ false
+  pub sixteen : badBook (bookOf 16 zeros zeros 0) ≡ false
+  pub seventeen : badBook (bookOf 17 zeros zeros 0) ≡ true
+  -- 1: "wear of all sections plus retired wear above 10^12"
+  pub full-wear : badBook (bookOf 16 (atLast 999999999999) zeros 1) ≡ false
+  pub wear-above : badBook (bookOf 16 (atLast 999999999999) zeros 2) ≡ true
+  pub retired-above : badBook (bookOf 1 zeros zeros 1000000000001) ≡ true
+  -- 1: "a bend count above 10^12"
+  pub full-count : badBook (bookOf 16 zeros (atLast 1000000000000) 0) ≡ false
+  pub count-above : badBook (bookOf 16 zeros (atLast 1000000000001) 0) ≡ true
+  pub first-count-above : badBook (bookOf 1 zeros (atFirst 1000000000001) 0) ≡ true
+  -- 1: "a section at or past the section count not all zero"
+  pub stray-wear : badBook (bookOf 1 (atSecond 1) zeros 0) ≡ true
+  pub stray-count : badBook (bookOf 1 zeros (atSecond 1) 0) ≡ true
+  pub stray-last : badBook (bookOf 15 zeros (atLast 1) 0) ≡ true
+  pub none-stray : badBook (bookOf 2 (atSecond 1) (atSecond 1) 0) ≡ false
+  -- 2: "entry slice no multiple of five"
+  pub four-numbers : badSlices 4 9 ≡ true
+  pub five-numbers : badSlices 5 1 ≡ false
+  pub six-numbers : badSlices 6 9 ≡ true
+  pub no-entry : badSlices 0 0 ≡ false
+  -- 2: "or answer slice shorter than the number of entries"
+  pub room-short : badSlices 10 1 ≡ true
+  pub room-enough : badSlices 10 2 ≡ false
+  -- "first hit answers": 1, 2, then the chart's (no bytes: 3)
+  pub book-first : batchRefusal (bookOf 0 zeros zeros 0) [] 4 0 ≡ 1
+  pub slices-next : batchRefusal (bookOf 1 zeros zeros 0) [] 4 0 ≡ 2
+  pub chart-last : batchRefusal (bookOf 1 zeros zeros 0) [] 5 1 ≡ 3
+
+pub book-rows : BookRows
+unfolding badBook from chartIn headOf
+book-rows =
+    record {
+      fresh-one = refl;
+      fresh-sixteen = refl;
+      fresh-none = refl;
+      fresh-seventeen = refl;
+      no-section = refl;
+      one-section = refl;
+      sixteen = refl;
+      seventeen = refl;
+      full-wear = refl;
+      wear-above = refl;
+      retired-above = refl;
+      full-count = refl;
+      count-above = refl;
+      first-count-above = refl;
+      stray-wear = refl;
+      stray-count = refl;
+      stray-last = refl;
+      none-stray = refl;
+      four-numbers = refl;
+      five-numbers = refl;
+      six-numbers = refl;
+      no-entry = refl;
+      room-short = refl;
+      room-enough = refl;
+      book-first = refl;
+      slices-next = refl;
+      chart-last = refl;
     }

@@ -3,7 +3,7 @@
 use mathlib.Core.Path.{_≡_, refl}
 use mathlib.Core.List.{[], _∷_, _++_}
 use lib.IntN.{pos, negsuc}
-use lib.ListN.{length, replicate}
+use lib.ListN.{length, take, replicate}
 use Rattle.whole.specs.First.{from}
 use Rattle.text.specs.Bytes.{eqs}
 use Rattle.text.specs.Field.{spacesOf, digitsOf, columns, lastDigit, fieldText, valueOf, candidate, fieldOf}
@@ -38,18 +38,36 @@ pub record Rows : Type 0 where
   pub minus-apart : chartRefusalOf (put fileA (byte 1 4) (45 ∷ [])) ≡ 5
   -- 5: "right-justified after spaces"
   pub left-justified : chartRefusalOf (put fileA (byte 1 0) (figures (1 ∷ 0 ∷ []) ++ replicate 6 32)) ≡ 5
+  -- 5: in the tables of half-edges and of faces
+  pub half-edge-malformed : chartRefusalOf (put fileA (byte 3 6) (43 ∷ [])) ≡ 5
+  pub face-malformed : chartRefusalOf (put fileA (byte 9 6) (43 ∷ [])) ≡ 5
+  -- 3: "fewer than 25 bytes": of 24 the line is not looked at, of 25 it is
+  pub short-malformed : chartRefusalOf (take 24 (put fileA 6 (48 ∷ []))) ≡ 3
+  pub line-1-malformed : chartRefusalOf (take 25 (put fileA 6 (48 ∷ []))) ≡ 5
   -- 6: "value not 0 to 1,000,000"
   pub value-most : chartRefusalOf (put fileA (byte 0 17) (figures (1 ∷ 0 ∷ 0 ∷ 0 ∷ 0 ∷ 0 ∷ 0 ∷ []))) ≡ 0
   pub value-more : chartRefusalOf (put fileA (byte 0 17) (figures (1 ∷ 0 ∷ 0 ∷ 0 ∷ 0 ∷ 0 ∷ 1 ∷ []))) ≡ 6
+  pub value-negative : chartRefusalOf (put fileA (byte 0 20) (45 ∷ [])) ≡ 6
+  pub value-none : chartRefusalOf (put fileA (byte 0 21) (32 ∷ 32 ∷ figures (0 ∷ []))) ≡ 0
   -- 6: "coordinate not -10,000 to 10,000"
   pub x-most : chartRefusalOf (put fileA (byte 1 3) (figures (1 ∷ 0 ∷ 0 ∷ 0 ∷ 0 ∷ []))) ≡ 0
   pub x-more : chartRefusalOf (put fileA (byte 1 3) (figures (1 ∷ 0 ∷ 0 ∷ 0 ∷ 1 ∷ []))) ≡ 6
   pub x-least : chartRefusalOf (put fileA (byte 0 2) (45 ∷ figures (1 ∷ 0 ∷ 0 ∷ 0 ∷ 0 ∷ []))) ≡ 0
   pub x-less : chartRefusalOf (put fileA (byte 0 2) (45 ∷ figures (1 ∷ 0 ∷ 0 ∷ 0 ∷ 1 ∷ []))) ≡ 6
+  pub y-most : chartRefusalOf (put fileA (byte 2 11) (figures (1 ∷ 0 ∷ 0 ∷ 0 ∷ 0 ∷ []))) ≡ 0
+  pub y-more : chartRefusalOf (put fileA (byte 2 11) (figures (1 ∷ 0 ∷ 0 ∷ 0 ∷ 1 ∷ []))) ≡ 6
+  pub y-less : chartRefusalOf (put fileA (byte 0 10) (45 ∷ figures (1 ∷ 0 ∷ 0 ∷ 0 ∷ 1 ∷ []))) ≡ 6
   -- 6: "a number of a vertex, half-edge or face negative or not below its count"
   pub origin-count : chartRefusalOf (put fileA (byte 3 7) (figures (3 ∷ []))) ≡ 6
   pub face-count : chartRefusalOf (put fileA (byte 3 31) (figures (2 ∷ []))) ≡ 6
   pub adjacent-count : chartRefusalOf (put fileA (byte 9 7) (figures (6 ∷ []))) ≡ 6
+  pub out-count : chartRefusalOf (put fileA (byte 0 31) (figures (6 ∷ []))) ≡ 6
+  pub prev-count : chartRefusalOf (put fileA (byte 3 23) (figures (6 ∷ []))) ≡ 6
+  pub origin-negative : chartRefusalOf (put fileA (byte 3 6) (45 ∷ figures (1 ∷ []))) ≡ 6
+  -- 6, in the last line of each table
+  pub last-vertex : chartRefusalOf (put fileA (byte 2 31) (figures (6 ∷ []))) ≡ 6
+  pub last-half-edge : chartRefusalOf (put fileA (byte 8 31) (figures (2 ∷ []))) ≡ 6
+  pub last-face : chartRefusalOf (put fileA (byte 9 16) (figures (6 ∷ []))) ≡ 6
   -- 9: "corners don't turn strictly left": on a line, at three different places
   pub on-a-line : chartRefusalOf (put fileA (byte 2 6) (figures (2 ∷ 0 ∷ []) ++ (replicate 7 32 ++ figures (0 ∷ [])))) ≡ 9
   -- 5 "the rest after 3"
@@ -94,15 +112,30 @@ rows =
       blank = refl;
       minus-apart = refl;
       left-justified = refl;
+      half-edge-malformed = refl;
+      face-malformed = refl;
+      short-malformed = refl;
+      line-1-malformed = refl;
       value-most = refl;
       value-more = refl;
+      value-negative = refl;
+      value-none = refl;
       x-most = refl;
       x-more = refl;
       x-least = refl;
       x-less = refl;
+      y-most = refl;
+      y-more = refl;
+      y-less = refl;
       origin-count = refl;
       face-count = refl;
       adjacent-count = refl;
+      out-count = refl;
+      prev-count = refl;
+      origin-negative = refl;
+      last-vertex = refl;
+      last-half-edge = refl;
+      last-face = refl;
       on-a-line = refl;
       length-first = refl;
       malformed-first = refl;

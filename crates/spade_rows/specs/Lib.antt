@@ -1,2 +1,3 @@
 pub mod ChartB
 pub mod Answers
+pub mod Batch

@@ -1,0 +1,1 @@
+// The exported calls on triangle A, as theorems about their definitions: everything is in specs/.

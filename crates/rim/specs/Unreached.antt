@@ -1,0 +1,147 @@
+-- Rows on charts that the check refuses, or on no chart at all: what the definitions say where no accepted chart leads. Expected are 01's words, worked out by
+-- hand, and the Rust's text. Each is computed. Assumes nothing.
+use mathlib.Core.Path.{_≡_, refl}
+use mathlib.Core.Bool.{Bool, true, false}
+use mathlib.Core.List.{List, [], _∷_}
+use Prim.Native.Nat.{ℕ}
+use lib.IntN.{ℤ, pos}
+use lib.Ieee.{Float, binary64, add, sub, mul, div, le, lt, eq, ne, neg, ofBits, ofInt}
+use Rattle.whole.specs.First.{from}
+use Rattle.geometry.specs.declared.Place.{Place}
+use Rattle.geometry.specs.Plane.{offGrid, crossOf, dotOf, norm2Of, side, lifted, circle, onOpenSegment}
+use Rattle.chart.specs.Chart.{Chart, chartOf}
+use Rattle.locate.specs.declared.Location.the-variants.{OnVertex, OnEdge, OnFace, OutsideOfConvexHull}
+use Rattle.locate.specs.Location.{locationOf}
+use Rattle.faceset.specs.Set as S
+use Rattle.flips.specs.Search.{inCircle, shouldFlip, inspect, inspectAll}
+use Rattle.neighbors.specs.Neighbors.{finished, faceNeighbors, innerEdgeNeighbors, edgeNeighbors, neighborsOf}
+use Rattle.points.specs.declared.PointProjection.{PointProjection}
+use Rattle.points.specs.Points.{relativePosition, circumcenterOf}
+use Rattle.weights.specs.Barycentric.{twoPointInterpolation, barycentricInterpolation, weighTwo, weighThree}
+use Rattle.turns.specs.declared.Area.{Area}
+use Rattle.turns.specs.declared.Area.the-variants as T
+use Rattle.turns.specs.Turn.{cellCorner, faceCenter, turnFrom, turnOf}
+use Rattle.points.specs.declared.Point2.{Point2}
+use Rattle.natural.specs.Natural.{sharesFrom, sharesOf, settled}
+use Rattle.gradient.specs.Gradient.{normalOf, addNormal, gradientFrom}
+use Rattle.gradient.specs.Turn.{turn, overPairs}
+use Rattle.interpolate.specs.Values.{sumFrom, blendOn, blended, blendFrom}
+use Rattle.values.specs.Value.Answer.{turnedDown}
+use Rattle.values.specs.Value.{locatedValue, valueOn}
+use Rattle.query.specs.Location.{Located as L, locateOn}
+use Rattle.query.specs.Natural.{Edges, Shares, Tally, edgesOn, sharesOn}
+use Rattle.query.specs.Gradient.{Slope as G, gradientOn}
+use Rattle.triangle.specs.TriangleA.{verticesA, edgesA, facesA}
+
+-- what a call says and leaves
+abbrev edgesAre : Tally → List ℕ → Edges
+edgesAre a s = record { answer = a; slice = s }
+
+abbrev sharesAre : Tally → List ℕ → List Float → Shares
+sharesAre a os ws = record { answer = a; owners = os; weights = ws }
+
+abbrev place : ℕ → ℕ → Place
+place x y = record { x = pos x; y = pos y }
+
+abbrev bits : ℕ → Float
+bits n = ofBits binary64 n
+
+-- ---- location
+-- vertex 2 is in the middle of the edge between vertices 0 and 1
+unfoldable pub halved : Chart
+halved = chartOf (pos 0 ∷ pos 0 ∷ pos 0 ∷ pos 0 ∷ pos 2 ∷ pos 0 ∷ pos 0 ∷ pos 1 ∷ pos 1 ∷ pos 0 ∷ pos 0 ∷ pos 0 ∷ []) (0 ∷ 1 ∷ 1 ∷ 0 ∷ 1 ∷ 0 ∷ 0 ∷ 0 ∷ []) (0 ∷ [])
+
+-- triangle A, and two vertices more, the ends of half-edges 6, 7 and of 8, 9, all of which have this face
+abbrev crossedBy : ℕ → ℤ → ℤ → ℤ → ℤ → Chart
+crossedBy f ax ay bx by =
+    chartOf
+    (pos 0 ∷ pos 0 ∷ pos 100 ∷ pos 0 ∷ pos 10 ∷ pos 0 ∷ pos 200 ∷ pos 2 ∷ pos 0 ∷ pos 10 ∷ pos 300 ∷ pos 4 ∷ ax ∷ ay ∷ pos 0 ∷ pos 6 ∷ bx ∷ by ∷ pos 0 ∷ pos 7 ∷ [])
+    (0 ∷ 2 ∷ 4 ∷ 1 ∷ 1 ∷ 5 ∷ 3 ∷ 0 ∷ 1 ∷ 4 ∷ 0 ∷ 1 ∷ 2 ∷ 1 ∷ 5 ∷ 0 ∷ 2 ∷ 0 ∷ 2 ∷ 1 ∷ 0 ∷ 3 ∷ 1 ∷ 0 ∷ 3 ∷ 7 ∷ 7 ∷ f ∷ 4 ∷ 6 ∷ 6 ∷ f ∷ 3 ∷ 9 ∷ 9 ∷ f ∷ 4 ∷ 8 ∷ 8 ∷ f ∷ [])
+    (1 ∷ 0 ∷ 0 ∷ [])
+
+-- triangle A whose inner half-edges have face 0 and whose outer ones have face 1
+unfoldable pub insideOut : Chart
+insideOut = chartOf verticesA (0 ∷ 2 ∷ 4 ∷ 0 ∷ 1 ∷ 5 ∷ 3 ∷ 1 ∷ 1 ∷ 4 ∷ 0 ∷ 0 ∷ 2 ∷ 1 ∷ 5 ∷ 1 ∷ 2 ∷ 0 ∷ 2 ∷ 0 ∷ 0 ∷ 3 ∷ 1 ∷ 1 ∷ []) (0 ∷ 1 ∷ [])
+
+-- nothing at all
+abbrev nothing : Chart
+nothing = chartOf [] [] []
+
+-- ---- search and turn
+-- triangle A, every half-edge of face 1
+unfoldable pub oneFace : Chart
+oneFace = chartOf verticesA (0 ∷ 2 ∷ 4 ∷ 1 ∷ 1 ∷ 5 ∷ 3 ∷ 1 ∷ 1 ∷ 4 ∷ 0 ∷ 1 ∷ 2 ∷ 1 ∷ 5 ∷ 1 ∷ 2 ∷ 0 ∷ 2 ∷ 1 ∷ 0 ∷ 3 ∷ 1 ∷ 1 ∷ []) (1 ∷ 0 ∷ [])
+
+-- triangle A, where the next of half-edge 2 is half-edge 0: a turn about its end goes on to half-edge 1, which has face 0
+unfoldable pub astray : Chart
+astray = chartOf verticesA (0 ∷ 2 ∷ 4 ∷ 1 ∷ 1 ∷ 5 ∷ 3 ∷ 0 ∷ 1 ∷ 0 ∷ 0 ∷ 1 ∷ 2 ∷ 1 ∷ 5 ∷ 0 ∷ 2 ∷ 0 ∷ 2 ∷ 1 ∷ 0 ∷ 3 ∷ 1 ∷ 0 ∷ []) facesA
+
+-- four half-edges of face 1, of which the partner of each one's next is the one after it: 0, 1, 2, 3 and 0 again
+unfoldable pub wheel : Chart
+wheel = chartOf verticesA (0 ∷ 0 ∷ 0 ∷ 1 ∷ 1 ∷ 3 ∷ 0 ∷ 1 ∷ 2 ∷ 2 ∷ 0 ∷ 1 ∷ 0 ∷ 1 ∷ 0 ∷ 1 ∷ []) facesA
+
+abbrev whole : Area → Bool
+whole (T.Whole a) = true
+whole T.Broken = false
+
+abbrev turned : ℕ → Bool
+turned stop =
+    let p : Point2 = record { x = bits 0; y = bits 0 } in
+    whole (turnOf wheel p stop p 0 p)
+
+-- ---- gradient: the three vertices of triangle A on a line
+unfoldable pub onLine : Chart
+onLine = chartOf (pos 0 ∷ pos 0 ∷ pos 100 ∷ pos 0 ∷ pos 10 ∷ pos 0 ∷ pos 200 ∷ pos 2 ∷ pos 20 ∷ pos 0 ∷ pos 300 ∷ pos 4 ∷ []) edgesA facesA
+
+pub record Rows : Type 0 where
+  -- "First that holds: the vertex at q; the lowest even half-edge ..": the vertex, though q is on an edge too
+  pub vertex-first : locationOf halved (place 1 0) ≡ OnVertex 2
+  -- ".. the lowest even half-edge with q on its open segment; the lowest inner face ..": of 6 and 8, though face 1 has q strictly left of its three
+  pub edge-next : locationOf (crossedBy 1 (pos 1) (pos 3) (pos 4) (pos 3)) (place 2 3) ≡ OnEdge 6
+  -- ".. the lowest inner face ..; the lowest outer half-edge ..": of faces 1 and 2, though q is strictly left of the outer half-edge 6
+  pub face-next : locationOf (crossedBy 0 (pos 0) (pos 1) (pos 9) (pos 1)) (place 2 3) ≡ OnFace 1
+  -- "the lowest inner face": strictly left of face 0's three half-edges is in no inner face
+  pub no-outer-face : locationOf insideOut (place 2 3) ≡ OutsideOfConvexHull 0
+  -- "else 15"
+  pub no-place : locateOn nothing (place 2 3) ≡ L.turnedDown 15
+  pub no-place-listed : edgesOn nothing (place 2 3) (9 ∷ []) ≡ edgesAre (Tally.turnedDown 15) (9 ∷ [])
+  pub no-place-shared : sharesOn nothing (place 2 3) (9 ∷ []) (bits 1 ∷ []) ≡ sharesAre (Tally.turnedDown 15) (9 ∷ []) (bits 1 ∷ [])
+  pub no-place-valued : valueOn 1 nothing (place 2 3) ≡ turnedDown 15
+  pub no-place-valued-2 : valueOn 2 nothing (place 2 3) ≡ turnedDown 15
+  -- "a face once opened is not opened again, its edge counts as border; the start face of OnFace counts as opened": seen from outside the circle, so that the
+  -- test of the circle, which turns right, would open it
+  pub opened-once : faceNeighbors oneFace (place 20 20) 1 ≡ record { edges = 4 ∷ 0 ∷ 2 ∷ []; opened = 1 }
+  -- "a turn about a neighbour .. that meets face 0 .. is broken and refuses with 15"; no slice is written
+  pub astray-shared : sharesOn astray (place 2 3) (9 ∷ 9 ∷ 9 ∷ []) (bits 1 ∷ bits 1 ∷ bits 1 ∷ []) ≡ sharesAre (Tally.turnedDown 15) (9 ∷ 9 ∷ 9 ∷ []) (bits 1 ∷ bits 1 ∷ bits 1 ∷ [])
+  pub astray-valued-2 : valueOn 2 astray (place 2 3) ≡ turnedDown 15
+  pub astray-valued-3 : valueOn 3 astray (place 2 3) ≡ turnedDown 15
+  -- "or takes more steps than there are half-edges": four half-edges, and four steps from 0 until half-edge 0, the partner of 1, comes again; none leads to 5
+  pub four-steps : turned 1 ≡ true
+  pub more-steps : turned 4 ≡ false
+  -- `estimate_gradient`: [zero; 2] where the sum's last component is 0 (so the oracle, forced)
+  pub no-area : gradientOn onLine 1 ≡ G.slope (bits 0) (bits 0)
+  -- `relative_position` below 0: (l - f) / l with l = 4 and f = -1
+  pub below-zero : relativePosition (record { factor = bits 0x3ff0_0000_0000_0000; «length_2» = bits 0xc010_0000_0000_0000 }) ≡ bits 0x3ff4_0000_0000_0000
+
+pub rows : Rows
+unfolding halved insideOut oneFace astray wheel onLine verticesA edgesA facesA from offGrid crossOf dotOf norm2Of side lifted circle onOpenSegment locationOf S.none S.add S.countBelow inCircle shouldFlip inspect inspectAll finished faceNeighbors innerEdgeNeighbors edgeNeighbors neighborsOf circumcenterOf twoPointInterpolation barycentricInterpolation weighTwo weighThree cellCorner faceCenter turnFrom sharesFrom sharesOf settled normalOf addNormal gradientFrom turn overPairs sumFrom blendOn blended blendFrom locatedValue valueOn locateOn edgesOn sharesOn gradientOn add sub mul div le lt eq ne neg ofBits ofInt
+rows =
+    record {
+      vertex-first = refl;
+      edge-next = refl;
+      face-next = refl;
+      no-outer-face = refl;
+      no-place = refl;
+      no-place-listed = refl;
+      no-place-shared = refl;
+      no-place-valued = refl;
+      no-place-valued-2 = refl;
+      opened-once = refl;
+      astray-shared = refl;
+      astray-valued-2 = refl;
+      astray-valued-3 = refl;
+      four-steps = refl;
+      more-steps = refl;
+      no-area = refl;
+      below-zero = refl;
+    }
