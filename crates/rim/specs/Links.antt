@@ -69,6 +69,11 @@ pub record Rows : Type 0 where
       refusal (pos 0 ∷ pos 0 ∷ pos 100 ∷ pos 1 ∷ pos 10 ∷ pos 0 ∷ pos 200 ∷ pos 3 ∷ pos 0 ∷ pos 10 ∷ pos 300 ∷ pos 5 ∷ [])
       (1 ∷ 4 ∷ 2 ∷ 0 ∷ 0 ∷ 3 ∷ 5 ∷ 1 ∷ 2 ∷ 0 ∷ 4 ∷ 0 ∷ 1 ∷ 5 ∷ 1 ∷ 1 ∷ 0 ∷ 2 ∷ 0 ∷ 0 ∷ 2 ∷ 1 ∷ 3 ∷ 1 ∷ [])
       (0 ∷ 1 ∷ []) ≡ 0
+  -- 9 and 11 are of inner faces alone: four vertices, three faces, and half-edge 0 is an outer one: no refusal
+  pub outer-first :
+      refusal (pos 9 ∷ pos 1 ∷ pos 6 ∷ pos 2 ∷ pos 8 ∷ pos 9 ∷ pos 7 ∷ pos 0 ∷ pos 0 ∷ pos 0 ∷ pos 5 ∷ pos 6 ∷ pos 1 ∷ pos 6 ∷ pos 8 ∷ pos 4 ∷ [])
+      (1 ∷ 7 ∷ 9 ∷ 0 ∷ 0 ∷ 8 ∷ 3 ∷ 2 ∷ 0 ∷ 4 ∷ 6 ∷ 1 ∷ 3 ∷ 1 ∷ 8 ∷ 2 ∷ 3 ∷ 6 ∷ 2 ∷ 1 ∷ 2 ∷ 9 ∷ 7 ∷ 0 ∷ 2 ∷ 2 ∷ 4 ∷ 1 ∷ 0 ∷ 5 ∷ 0 ∷ 0 ∷ 1 ∷ 3 ∷ 1 ∷ 2 ∷ 3 ∷ 0 ∷ 5 ∷ 0 ∷ [])
+      (7 ∷ 4 ∷ 1 ∷ []) ≡ 0
 
 pub rows : Rows
 unfolding from crossOf norm2Of side lifted circle linked linksBroken chartRefusal
@@ -85,4 +90,5 @@ rows =
       two-outer = refl;
       rim-first = refl;
       exchanged = refl;
+      outer-first = refl;
     }

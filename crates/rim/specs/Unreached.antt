@@ -89,6 +89,19 @@ turned stop =
     let p : Point2 = record { x = bits 0; y = bits 0 } in
     whole (turnOf wheel p stop p 0 p)
 
+-- the turn from half-edge 2 to 4 on triangle A, one step, seen from (20, 20): the face's center has negative coordinates
+abbrev turnedAside : Area
+turnedAside =
+    let q : Point2 = record { x = bits 0x4034_0000_0000_0000; y = bits 0x4034_0000_0000_0000 } in
+    turnOf (chartOf verticesA edgesA facesA) q 4 (record { x = bits 0x8000_0000_0000_0000; y = bits 0 }) 2 (record { x = bits 0; y = bits 0 })
+
+-- a triangle of (0,0), (8,0) and (0,8), whose circle has its center at (4,4), exactly; the turn from half-edge 2 to 4, seen from (0,0)
+abbrev turnedAt : Area
+turnedAt =
+    let q : Point2 = record { x = bits 0; y = bits 0 } in
+    let one : Float = bits 0x3ff0_0000_0000_0000 in
+    turnOf (chartOf (pos 0 ∷ pos 0 ∷ pos 0 ∷ pos 0 ∷ pos 8 ∷ pos 0 ∷ pos 0 ∷ pos 2 ∷ pos 0 ∷ pos 8 ∷ pos 0 ∷ pos 4 ∷ []) edgesA facesA) q 4 (record { x = one; y = bits 0 }) 2 (record { x = bits 0; y = one })
+
 -- ---- gradient: the three vertices of triangle A on a line
 unfoldable pub onLine : Chart
 onLine = chartOf (pos 0 ∷ pos 0 ∷ pos 100 ∷ pos 0 ∷ pos 10 ∷ pos 0 ∷ pos 200 ∷ pos 2 ∷ pos 20 ∷ pos 0 ∷ pos 300 ∷ pos 4 ∷ []) edgesA facesA
@@ -118,6 +131,10 @@ pub record Rows : Type 0 where
   -- "or takes more steps than there are half-edges": four half-edges, and four steps from 0 until half-edge 0, the partner of 1, comes again; none leads to 5
   pub four-steps : turned 1 ≡ true
   pub more-steps : turned 4 ≡ false
+  -- `polygon_area` is positive_area - negative_area: (1, 0), (0, 1), (4, 4) give 1 * 1 + 0 * 4 + 4 * 0 less 0 * 0 + 1 * 4 + 4 * 1, which is -7
+  pub area-sign : turnedAt ≡ T.Whole (bits 0xc01c_0000_0000_0000)
+  -- `positive_area` begins with a product and no sum, so that it is -0 where all three products are; `negative_area` is +0
+  pub minus-zero-stays : turnedAside ≡ T.Whole (bits 0x8000_0000_0000_0000)
   -- `estimate_gradient`: [zero; 2] where the sum's last component is 0 (so the oracle, forced)
   pub no-area : gradientOn onLine 1 ≡ G.slope (bits 0) (bits 0)
   -- `relative_position` below 0: (l - f) / l with l = 4 and f = -1
@@ -142,6 +159,8 @@ rows =
       astray-valued-3 = refl;
       four-steps = refl;
       more-steps = refl;
+      area-sign = refl;
+      minus-zero-stays = refl;
       no-area = refl;
       below-zero = refl;
     }

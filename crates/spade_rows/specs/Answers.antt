@@ -88,6 +88,12 @@ straight =
     chartOf (pos 0 ∷ pos 0 ∷ pos 100 ∷ pos 1 ∷ pos 5 ∷ pos 0 ∷ pos 210 ∷ pos 5 ∷ pos 10 ∷ pos 0 ∷ pos 70 ∷ pos 4 ∷ pos 0 ∷ pos 10 ∷ pos 400 ∷ pos 7 ∷ [])
     (1 ∷ 2 ∷ 4 ∷ 0 ∷ 0 ∷ 6 ∷ 3 ∷ 1 ∷ 0 ∷ 9 ∷ 0 ∷ 0 ∷ 3 ∷ 1 ∷ 6 ∷ 1 ∷ 2 ∷ 0 ∷ 9 ∷ 0 ∷ 1 ∷ 8 ∷ 7 ∷ 2 ∷ 1 ∷ 3 ∷ 1 ∷ 1 ∷ 3 ∷ 5 ∷ 8 ∷ 2 ∷ 2 ∷ 7 ∷ 5 ∷ 2 ∷ 3 ∷ 4 ∷ 2 ∷ 0 ∷ []) (2 ∷ 1 ∷ 5 ∷ [])
 
+-- (4,-3), (4,3) and (-5,0), on the circle of radius 5, and (12,0)
+abbrev round : Chart
+round =
+    chartOf (pos 4 ∷ negsuc 2 ∷ pos 100 ∷ pos 0 ∷ pos 4 ∷ pos 3 ∷ pos 210 ∷ pos 1 ∷ negsuc 4 ∷ pos 0 ∷ pos 70 ∷ pos 7 ∷ pos 12 ∷ pos 0 ∷ pos 400 ∷ pos 8 ∷ [])
+    (0 ∷ 6 ∷ 3 ∷ 1 ∷ 1 ∷ 5 ∷ 8 ∷ 2 ∷ 0 ∷ 7 ∷ 4 ∷ 0 ∷ 2 ∷ 0 ∷ 6 ∷ 1 ∷ 3 ∷ 2 ∷ 9 ∷ 0 ∷ 0 ∷ 8 ∷ 1 ∷ 2 ∷ 1 ∷ 3 ∷ 0 ∷ 1 ∷ 2 ∷ 9 ∷ 2 ∷ 0 ∷ 3 ∷ 1 ∷ 5 ∷ 2 ∷ 1 ∷ 4 ∷ 7 ∷ 0 ∷ []) (7 ∷ 3 ∷ 8 ∷ [])
+
 pub record Rows : Type 0 where
   -- the chart is accepted
   pub accepted : chartRefusalOf fileB ≡ 0
@@ -157,6 +163,9 @@ pub record Rows : Type 0 where
   pub slope-4 : gradientOn chartB 4 ≡ slope (bits 4622034062116641475) (bits 4623825266513891105)
   -- "-0 included": triangle A with all values alike
   pub slope-flat : gradientOn flat 1 ≡ slope (bits 9223372036854775808) (bits 9223372036854775808)
+  -- a load in one face and on the circle of the other: "a point on the circle taken as inside" is among 01's mistakes seen elsewhere
+  pub round-located : locateOn round (place (pos 5) (pos 0)) ≡ at (OnFace 2)
+  pub round-edges : edgesOn round (place (pos 5) (pos 0)) lent ≡ edgesAre (listed 3 1) (5 ∷ 8 ∷ 1 ∷ replicate 17 9)
   -- of a vertex in the middle of a straight side: the pair of its two ends has no area, and does not count
   pub slope-straight : gradientOn straight 1 ≡ slope (bits 13837309855095848960) (bits 4625619029774565376)
 
@@ -215,5 +224,7 @@ rows =
       slope-3 = refl;
       slope-4 = refl;
       slope-flat = refl;
+      round-located = refl;
+      round-edges = refl;
       slope-straight = refl;
     }
