@@ -17,7 +17,7 @@ use Rattle.flips.specs.Search.{inCircle, shouldFlip, inspect, inspectAll}
 use Rattle.neighbors.specs.Neighbors.{finished, faceNeighbors, innerEdgeNeighbors, edgeNeighbors, neighborsOf}
 use Rattle.points.specs.declared.PointProjection.{PointProjection}
 use Rattle.points.specs.Points.{relativePosition, circumcenterOf}
-use Rattle.weights.specs.Barycentric.{twoPointInterpolation, barycentricInterpolation, weighTwo, weighThree}
+use Rattle.weights.specs.Barycentric.{Weights as B, twoPointInterpolation, barycentricInterpolation, weighTwo, weighThree}
 use Rattle.turns.specs.declared.Area.{Area}
 use Rattle.turns.specs.declared.Area.the-variants as T
 use Rattle.turns.specs.Turn.{cellCorner, faceCenter, turnFrom, turnOf}
@@ -29,6 +29,7 @@ use Rattle.interpolate.specs.Values.{sumFrom, blendOn, blended, blendFrom}
 use Rattle.values.specs.Value.Answer.{turnedDown}
 use Rattle.values.specs.Value.{locatedValue, valueOn}
 use Rattle.query.specs.Location.{Located as L, locateOn}
+use Rattle.query.specs.Weights.{barycentricOn}
 use Rattle.query.specs.Natural.{Edges, Shares, Tally, edgesOn, sharesOn}
 use Rattle.query.specs.Gradient.{Slope as G, gradientOn}
 use Rattle.triangle.specs.TriangleA.{verticesA, edgesA, facesA}
@@ -119,6 +120,7 @@ pub record Rows : Type 0 where
   pub no-place : locateOn nothing (place 2 3) ≡ L.turnedDown 15
   pub no-place-listed : edgesOn nothing (place 2 3) (9 ∷ []) ≡ edgesAre (Tally.turnedDown 15) (9 ∷ [])
   pub no-place-shared : sharesOn nothing (place 2 3) (9 ∷ []) (bits 1 ∷ []) ≡ sharesAre (Tally.turnedDown 15) (9 ∷ []) (bits 1 ∷ [])
+  pub no-place-weighed : barycentricOn nothing (place 2 3) ≡ B.turnedDown 15
   pub no-place-valued : valueOn 1 nothing (place 2 3) ≡ turnedDown 15
   pub no-place-valued-2 : valueOn 2 nothing (place 2 3) ≡ turnedDown 15
   -- "a face once opened is not opened again, its edge counts as border; the start face of OnFace counts as opened": seen from outside the circle, so that the
@@ -141,7 +143,7 @@ pub record Rows : Type 0 where
   pub below-zero : relativePosition (record { factor = bits 0x3ff0_0000_0000_0000; «length_2» = bits 0xc010_0000_0000_0000 }) ≡ bits 0x3ff4_0000_0000_0000
 
 pub rows : Rows
-unfolding halved insideOut oneFace astray wheel onLine verticesA edgesA facesA from offGrid crossOf dotOf norm2Of side lifted circle onOpenSegment locationOf S.none S.add S.countBelow inCircle shouldFlip inspect inspectAll finished faceNeighbors innerEdgeNeighbors edgeNeighbors neighborsOf circumcenterOf twoPointInterpolation barycentricInterpolation weighTwo weighThree cellCorner faceCenter turnFrom sharesFrom sharesOf settled normalOf addNormal gradientFrom turn overPairs sumFrom blendOn blended blendFrom locatedValue valueOn locateOn edgesOn sharesOn gradientOn add sub mul div le lt eq ne neg ofBits ofInt
+unfolding halved insideOut oneFace astray wheel onLine verticesA edgesA facesA from offGrid crossOf dotOf norm2Of side lifted circle onOpenSegment locationOf S.none S.add S.countBelow inCircle shouldFlip inspect inspectAll finished faceNeighbors innerEdgeNeighbors edgeNeighbors neighborsOf circumcenterOf twoPointInterpolation barycentricInterpolation weighTwo weighThree cellCorner faceCenter turnFrom sharesFrom sharesOf settled normalOf addNormal gradientFrom turn overPairs sumFrom blendOn blended blendFrom locatedValue valueOn locateOn edgesOn sharesOn gradientOn add sub mul div le lt eq ne neg ofBits ofInt barycentricOn
 rows =
     record {
       vertex-first = refl;
@@ -151,6 +153,7 @@ rows =
       no-place = refl;
       no-place-listed = refl;
       no-place-shared = refl;
+      no-place-weighed = refl;
       no-place-valued = refl;
       no-place-valued-2 = refl;
       opened-once = refl;
