@@ -21,7 +21,7 @@ use Rattle.entries.specs.declared.Ruling.the-variants.{Bend, Splice, Refused}
 use Rattle.entries.specs.Ruling.{meets17, with17, answerOf}
 use Rattle.values.specs.Value.{Answer}
 use Rattle.accounts.specs.Rulings.{Queries, entryRuling}
-use Rattle.accounts.specs.Batch.{bookAfter, badSlices, batchRefusal}
+use Rattle.accounts.specs.Batch.{bookVerdict, bookAfter, badSlices, batchRefusal}
 use Rattle.accounts.specs.Tally.{charges, wearSum, bendCount}
 use Rattle.accounts.specs.Demand.{fresh}
 
@@ -203,6 +203,11 @@ pub record BookRows : Type 0 where
   pub stray-count : badBook (bookOf 1 zeros (atSecond 1) 0) ≡ true
   pub stray-last : badBook (bookOf 15 zeros (atLast 1) 0) ≡ true
   pub none-stray : badBook (bookOf 2 (atSecond 1) (atSecond 1) 0) ≡ false
+  -- 17: "wear of all sections plus retired wear above 10^12": with the bend's 100 it is 10^12, and one more; "or the section's count is 10^12"
+  pub wear-and-retired : bookVerdict hundred [] (bookOf 2 (atSecond 5) zeros 999999999895) bend ≡ Bend 0 100
+  pub wear-and-retired-above : bookVerdict hundred [] (bookOf 2 (atSecond 5) zeros 999999999896) bend ≡ Refused 17
+  pub bends-full : bookVerdict hundred [] (bookOf 2 zeros (atFirst 1000000000000) 0) bend ≡ Refused 17
+  pub others-full : bookVerdict hundred [] (bookOf 2 zeros (atSecond 1000000000000) 0) bend ≡ Bend 0 100
   -- 2: "entry slice no multiple of five"
   pub four-numbers : badSlices 4 9 ≡ true
   pub five-numbers : badSlices 5 1 ≡ false
@@ -217,7 +222,7 @@ pub record BookRows : Type 0 where
   pub chart-last : batchRefusal (bookOf 1 zeros zeros 0) [] 5 1 ≡ 3
 
 pub book-rows : BookRows
-unfolding badBook from chartIn headOf
+unfolding badBook from chartIn headOf entryRuling notBelow offGrid ofBits
 book-rows =
     record {
       fresh-one = refl;
@@ -238,6 +243,10 @@ book-rows =
       stray-count = refl;
       stray-last = refl;
       none-stray = refl;
+      wear-and-retired = refl;
+      wear-and-retired-above = refl;
+      bends-full = refl;
+      others-full = refl;
       four-numbers = refl;
       five-numbers = refl;
       six-numbers = refl;

@@ -85,7 +85,7 @@ pub record Rows : Type 0 where
   pub accepted : chartRefusalOf square ≡ 0
   -- 7: "the next of h starts at the origin of h's partner": half-edge 9 starts elsewhere, nothing else is broken
   pub next-elsewhere : chartRefusalOf (put square (byte 13 7) (figures (1 ∷ []))) ≡ 7
-  -- 10: "a vertex strictly left of an outer half-edge": vertices 1 and 3 move in, and the corner between them stands out
+  -- 10: "a vertex strictly left of an outer half-edge": vertices 1 and 3 move out, to (90,0) and (0,90), and the corner between them is no longer convex
   pub not-convex : chartRefusalOf (put (put square (byte 1 6) (figures (9 ∷ []))) (byte 3 14) (figures (9 ∷ []))) ≡ 10
   -- 11: "a vertex strictly inside an inner face's circle": vertex 2 moves up, and vertex 3 is inside face 1's
   pub in-a-circle : chartRefusalOf (put square (byte 2 14) (figures (2 ∷ []))) ≡ 11

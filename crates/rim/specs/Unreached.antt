@@ -126,6 +126,8 @@ pub record Rows : Type 0 where
   -- "a face once opened is not opened again, its edge counts as border; the start face of OnFace counts as opened": seen from outside the circle, so that the
   -- test of the circle, which turns right, would open it
   pub opened-once : faceNeighbors oneFace (place 20 20) 1 ≡ record { edges = 4 ∷ 0 ∷ 2 ∷ []; opened = 1 }
+  -- `inspect_flips` opens inner faces alone: seen from there, the outer face of triangle A would be opened by the circle too
+  pub outer-border : faceNeighbors (chartOf verticesA edgesA facesA) (place 20 20) 1 ≡ record { edges = 4 ∷ 0 ∷ 2 ∷ []; opened = 1 }
   -- "a turn about a neighbour .. that meets face 0 .. is broken and refuses with 15"; no slice is written
   pub astray-shared : sharesOn astray (place 2 3) (9 ∷ 9 ∷ 9 ∷ []) (bits 1 ∷ bits 1 ∷ bits 1 ∷ []) ≡ sharesAre (Tally.turnedDown 15) (9 ∷ 9 ∷ 9 ∷ []) (bits 1 ∷ bits 1 ∷ bits 1 ∷ [])
   pub astray-valued-2 : valueOn 2 astray (place 2 3) ≡ turnedDown 15
@@ -157,6 +159,7 @@ rows =
       no-place-valued = refl;
       no-place-valued-2 = refl;
       opened-once = refl;
+      outer-border = refl;
       astray-shared = refl;
       astray-valued-2 = refl;
       astray-valued-3 = refl;

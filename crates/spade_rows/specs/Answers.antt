@@ -94,6 +94,12 @@ round =
     chartOf (pos 4 ∷ negsuc 2 ∷ pos 100 ∷ pos 0 ∷ pos 4 ∷ pos 3 ∷ pos 210 ∷ pos 1 ∷ negsuc 4 ∷ pos 0 ∷ pos 70 ∷ pos 7 ∷ pos 12 ∷ pos 0 ∷ pos 400 ∷ pos 8 ∷ [])
     (0 ∷ 6 ∷ 3 ∷ 1 ∷ 1 ∷ 5 ∷ 8 ∷ 2 ∷ 0 ∷ 7 ∷ 4 ∷ 0 ∷ 2 ∷ 0 ∷ 6 ∷ 1 ∷ 3 ∷ 2 ∷ 9 ∷ 0 ∷ 0 ∷ 8 ∷ 1 ∷ 2 ∷ 1 ∷ 3 ∷ 0 ∷ 1 ∷ 2 ∷ 9 ∷ 2 ∷ 0 ∷ 3 ∷ 1 ∷ 5 ∷ 2 ∷ 1 ∷ 4 ∷ 7 ∷ 0 ∷ []) (7 ∷ 3 ∷ 8 ∷ [])
 
+-- six vertices and seven faces
+abbrev wide : Chart
+wide =
+    chartOf (pos 6 ∷ pos 2 ∷ pos 258 ∷ pos 14 ∷ pos 3 ∷ pos 5 ∷ pos 254 ∷ pos 13 ∷ pos 3 ∷ pos 6 ∷ pos 77 ∷ pos 0 ∷ pos 3 ∷ pos 0 ∷ pos 320 ∷ pos 17 ∷ pos 3 ∷ pos 8 ∷ pos 159 ∷ pos 15 ∷ pos 1 ∷ pos 2 ∷ pos 102 ∷ pos 12 ∷ [])
+    (2 ∷ 12 ∷ 9 ∷ 5 ∷ 5 ∷ 18 ∷ 21 ∷ 2 ∷ 2 ∷ 14 ∷ 19 ∷ 1 ∷ 0 ∷ 8 ∷ 10 ∷ 4 ∷ 5 ∷ 17 ∷ 6 ∷ 3 ∷ 3 ∷ 20 ∷ 16 ∷ 0 ∷ 0 ∷ 4 ∷ 17 ∷ 3 ∷ 5 ∷ 11 ∷ 13 ∷ 6 ∷ 2 ∷ 10 ∷ 3 ∷ 4 ∷ 1 ∷ 0 ∷ 12 ∷ 5 ∷ 1 ∷ 3 ∷ 8 ∷ 4 ∷ 0 ∷ 13 ∷ 7 ∷ 6 ∷ 5 ∷ 9 ∷ 0 ∷ 5 ∷ 1 ∷ 7 ∷ 11 ∷ 6 ∷ 0 ∷ 19 ∷ 2 ∷ 1 ∷ 4 ∷ 16 ∷ 20 ∷ 0 ∷ 0 ∷ 5 ∷ 15 ∷ 0 ∷ 3 ∷ 6 ∷ 4 ∷ 3 ∷ 2 ∷ 21 ∷ 1 ∷ 2 ∷ 4 ∷ 2 ∷ 14 ∷ 1 ∷ 5 ∷ 15 ∷ 5 ∷ 0 ∷ 4 ∷ 1 ∷ 18 ∷ 2 ∷ []) (15 ∷ 19 ∷ 1 ∷ 17 ∷ 3 ∷ 9 ∷ 13 ∷ [])
+
 pub record Rows : Type 0 where
   -- the chart is accepted
   pub accepted : chartRefusalOf fileB ≡ 0
@@ -166,6 +172,9 @@ pub record Rows : Type 0 where
   -- a load in one face and on the circle of the other: "a point on the circle taken as inside" is among 01's mistakes seen elsewhere
   pub round-located : locateOn round (place (pos 5) (pos 0)) ≡ at (OnFace 2)
   pub round-edges : edgesOn round (place (pos 5) (pos 0)) lent ≡ edgesAre (listed 3 1) (5 ∷ 8 ∷ 1 ∷ replicate 17 9)
+  -- more faces than vertices, of which the last one is opened; and a vertex with five neighbours
+  pub wide-edges : edgesOn wide (place (pos 2) (pos 4)) lent ≡ edgesAre (listed 6 4) (18 ∷ 21 ∷ 4 ∷ 17 ∷ 11 ∷ 9 ∷ replicate 14 9)
+  pub wide-slope : gradientOn wide 0 ≡ slope (bits 4628500008947956796) (bits 13849156640145053335)
   -- of a vertex in the middle of a straight side: the pair of its two ends has no area, and does not count
   pub slope-straight : gradientOn straight 1 ≡ slope (bits 13837309855095848960) (bits 4625619029774565376)
 
@@ -226,5 +235,7 @@ rows =
       slope-flat = refl;
       round-located = refl;
       round-edges = refl;
+      wide-edges = refl;
+      wide-slope = refl;
       slope-straight = refl;
     }
