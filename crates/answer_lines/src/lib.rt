@@ -1,6 +1,5 @@
 // The lines that `answers` prints: a function for each kind.
 ghost use mathlib.Core.Path.{_≡_};
-ghost use lib.IntN.{natAbs};
 use book::Book;
 use charge::Charged;
 use libc::STDOUT_FILENO;
@@ -255,15 +254,5 @@ fn signed(z: i64) {
     if z < 0 {
         word(b"-");
     }
-    natural(magnitude(z));
-}
-
-fn magnitude(z: i64) -> u64
-    ensures { λ r. ⌜ r ≡ natAbs z ⌝ }
-{
-    if z < 0 {
-        // 1 is added last: the magnitude of the least number is no i64
-        return (-1 - z) as u64 + 1;
-    }
-    z as u64
+    natural(columns::magnitude(z));
 }

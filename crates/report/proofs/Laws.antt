@@ -10,46 +10,6 @@ use lib.Seq.{drop-cons, getD-set-same, drop-set-lt, take-suc, length-take-le}
 use Rattle.text.specs.Field.{columns, lastDigit, fieldText}
 use Rattle.report.specs.Lines.{columnByte, printed, answerLine, answerLines, sectionLine, sectionLines}
 
--- A column where a number still has digits.
-pub column-digit : (n : ℕ) → (n ≡ 0 → ⊥) → 48 + n % 10 ≡ columnByte n
-column-digit zero h = absurd (h refl)
-column-digit (suc m) h = refl
-
--- One column more of a number.
-columns-step : (k n : ℕ) → columns (suc k) 32 n ≡ columns k 32 (n / 10) ++ (columnByte n ∷ [])
-unfolding columns
-columns-step k zero = refl
-columns-step k (suc m) = refl
-
--- No column.
-pub columns-none : (n : ℕ) → columns 0 32 n ≡ []
-unfolding columns
-columns-none n = refl
-
-printed-by : (k w : ℕ) → w ≡ suc k → (n : ℕ) → printed w n ≡ columns k 32 (n / 10) ++ ((48 + n % 10) ∷ [])
-unfolding fieldText lastDigit
-printed-by k w e n = rw e refl
-
--- The last column of a field.
-pub last-column : (w n : ℕ) → 0 < w → printed w n ≡ columns (w - 1) 32 (n / 10) ++ ((48 + n % 10) ∷ [])
-last-column w n h = printed-by (w - 1) w (omega arith) n
-
--- One column more, before those that are written.
-pub column-step : (s t : List ℕ) (k n : ℕ) → 0 < k → t ≡ columns k 32 n ++ drop k s → t ≡ columns (k - 1) 32 (n / 10) ++ (columnByte n ∷ drop k s)
-column-step s t k n h e =
-    let k′ : suc (k - 1) ≡ k = omega arith in
-    e
-    ∙ ap (λ (l : List ℕ). l ++ drop k s) (rw k′ at (columns-step (k - 1) n))
-    ∙ append-assoc (columns (k - 1) 32 (n / 10)) (columnByte n ∷ []) (drop k s)
-
--- A column that is written: what stands from it on.
-pub column-put : (s : List ℕ) (k b : ℕ) → 0 < k → k ≤ length s → drop (k - 1) (set s (k - 1) b) ≡ b ∷ drop k s
-column-put s k b h l =
-    let k′ : suc (k - 1) ≡ k = omega arith in
-    let i : k - 1 < length (set s (k - 1) b) = simp length-set (omega arith) in
-    drop-cons (set s (k - 1) b) (k - 1) 0 i
-    ∙ rw (getD-set-same s (k - 1) b 0 (omega arith), k′, drop-set-lt k s (k - 1) b (omega arith)) refl
-
 -- One answer more at the end.
 answers-snoc : (j a : ℕ) (s : List ℕ) → answerLines j (s ++ (a ∷ [])) ≡ answerLines j s ++ answerLine (j + length s) a
 unfolding answerLines

@@ -1,19 +1,12 @@
 -- How many bytes the program's lines have. Assumes nothing.
-use Prim.Native.Nat.{ℕ, zero, suc, _+_, _*_, _/_}
+use Prim.Native.Nat.{ℕ, zero, suc, _+_, _*_}
 use mathlib.Core.List.{List, [], _∷_}
 use mathlib.Core.Path.{_≡_, refl}
 use native.Mathlib.Omega.{arith}
-use native.Mathlib.Numerals.{add-one}
 use lib.ListN.{length, length-append}
-use Rattle.text.specs.Field.{columns-length, lastDigit, fieldText}
+use Rattle.columns.specs.Printed.{printed-length}
 use Rattle.book.specs.declared.Book.{Book}
-use Rattle.report.specs.Lines.{printed, answerBytes, sectionBytes, retiredBytes, refusalBytes, bookBytes, answerLine, sectionLine, retiredLine, refusalLine, answerLines, sectionLines, bookLines, outputOf}
-
--- a field has its columns
-pub printed-length : (w n : ℕ) → length (printed w n) ≡ w
-unfolding fieldText lastDigit
-printed-length zero n = refl
-printed-length (suc k) n = simp (length-append, columns-length k 32 (n / 10), add-one)
+use Rattle.report.specs.Lines.{answerBytes, sectionBytes, retiredBytes, refusalBytes, bookBytes, answerLine, sectionLine, retiredLine, refusalLine, answerLines, sectionLines, bookLines, outputOf}
 
 pub answer-length : (i a : ℕ) → length (answerLine i a) ≡ answerBytes
 unfolding answerLine

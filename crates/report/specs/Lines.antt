@@ -1,22 +1,14 @@
 -- 01, "Program": the lines that the program prints, and how long they are.
-use Prim.Native.Nat.{ℕ, zero, suc, _+_, _*_, _%_}
+use Prim.Native.Nat.{ℕ, zero, suc, _+_, _*_}
 use mathlib.Core.List.{List, [], _∷_, _++_}
-use lib.IntN.{pos}
 use lib.ListN.{getD}
-use Rattle.text.specs.Field.{fieldWidth, fieldText}
+use Rattle.text.specs.Field.{fieldWidth}
+use Rattle.columns.specs.Printed.{printed, lineFeed}
 use Rattle.book.specs.declared.Book.{Book}
 
 -- 01 "Program": the columns of wear and bend count, 16; other fields have 8, as in the chart's text
 abbrev pub wideField : ℕ
 wideField = 16
-
--- 01 "Program": "Printed fields are right-justified after spaces": n in w columns; of a number that does not fit, its last digits
-abbrev pub printed : ℕ → ℕ → List ℕ
-printed w n = fieldText w (pos n)
-
--- 01 "Program": "each printed line ends with LF"
-abbrev pub lineFeed : ℕ
-lineFeed = 10
 
 -- 01 "Program": "entry number and answer (8, 8 columns)"
 unfoldable pub answerLine : ℕ → ℕ → List ℕ
@@ -71,8 +63,3 @@ refusalBytes = fieldWidth + 1
 
 abbrev pub bookBytes : ℕ
 bookBytes = sectionBytes * programSections + retiredBytes
-
--- ---- a column before the last: the last digit of n, or a space where n has none
-abbrev pub columnByte : ℕ → ℕ
-columnByte zero = 32
-columnByte (suc m) = 48 + suc m % 10

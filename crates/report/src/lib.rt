@@ -1,10 +1,9 @@
 // What the program prints: fields right-justified after spaces, lines that end with LF.
 ghost use mathlib.Core.Path.{_≡_};
-ghost use mathlib.Core.List.{[], _∷_};
-ghost use Prim.Native.Nat.{_+_, _*_, _/_, _%_, _≤_, _<_};
+ghost use Prim.Native.Nat.{_+_, _*_, _≤_};
 ghost use lib.ListN.{length};
-ghost use Rattle.report.specs.Lines.{lineFeed, columnByte, printed, answerBytes, sectionBytes, retiredBytes, refusalBytes, bookBytes, answerLine, sectionLine, retiredLine, refusalLine, answerLines, sectionLines, bookLines, outputOf, programSections};
-ghost use Rattle.report.specs.Laid.{laid};
+ghost use Rattle.report.specs.Lines.{answerBytes, sectionBytes, retiredBytes, refusalBytes, bookBytes, answerLine, sectionLine, retiredLine, refusalLine, answerLines, sectionLines, bookLines, outputOf, programSections};
+ghost use Rattle.columns.specs.Laid.{laid};
 use book::Book;
 use text::COLUMNS;
 
@@ -14,63 +13,14 @@ const WIDE_COLUMNS: usize = 16;
 // How many sections the program's book has.
 pub const SECTIONS: usize = 2;
 
-fn digit(n: u64) -> u8
-    ensures { λ r. ⌜ r ≡ 48 + n % 10 ⌝ }
-{
-    b'0' + (n % 10) as u8
-}
-
-// The column where a number still has the digits n: its last digit, or a space where there is none.
-fn column(n: u64) -> u8
-    ensures { λ r. ⌜ r ≡ columnByte n ⌝ }
-{
-    if n == 0 {
-        return b' ';
-    }
-    digit(n)
-}
-
-// A number into all the columns of a field, the last column first. Of a number that does not fit the last digits are printed.
-fn put_number(field: &mut [u8], n: u64)
-    requires { ⌜ 0 < length (now field) ⌝ }
-    ensures { λ _. ⌜ now (field .exit) ≡ printed (length (now (field .entry))) n ⌝ }
-{
-    let mut k = field.len() - 1;
-    field[k] = digit(n);
-    let mut left = n / 10;
-    while 0 < k {
-        k -= 1;
-        field[k] = column(left);
-        left = left / 10;
-    }
-}
-
-// A number into w columns from `at`. Here and below the answer is where what was put ends.
-fn put_field(out: &mut [u8], at: usize, w: usize, n: u64) -> usize
-    requires { ⌜ (0 < w) × (at + w ≤ length (now out)) ⌝ }
-    ensures { λ r. ⌜ (r ≡ at + w) × (now (out .exit) ≡ laid (now (out .entry)) at (printed w n)) ⌝ }
-{
-    let end = at + w;
-    put_number(&mut out[at..end], n);
-    end
-}
-
-fn put_line_end(out: &mut [u8], at: usize) -> usize
-    requires { ⌜ at < length (now out) ⌝ }
-    ensures { λ r. ⌜ (r ≡ at + 1) × (now (out .exit) ≡ laid (now (out .entry)) at (lineFeed ∷ [])) ⌝ }
-{
-    out[at] = b'\n';
-    at + 1
-}
-
-// Entry number and answer.
+// Entry number and answer. Here and below the answer is where what was put ends.
 fn put_answer(out: &mut [u8], at: usize, number: u64, answer: u64) -> usize
     requires { ⌜ at + answerBytes ≤ length (now out) ⌝ }
     ensures { λ r. ⌜ (r ≡ at + answerBytes) × (now (out .exit) ≡ laid (now (out .entry)) at (answerLine number answer)) ⌝ }
 {
-    let a = put_field(out, at, COLUMNS, number);
-    let b = put_field(out, a, COLUMNS, answer);
-    put_line_end(out, b)
+    let a = columns::put_number(out, at, COLUMNS, number);
+    let b = columns::put_number(out, a, COLUMNS, answer);
+    columns::put_line_end(out, b)
 }
 
 // Section, wear, bend count.
@@ -78,10 +28,10 @@ fn put_section(out: &mut [u8], at: usize, section: u64, wear: u64, bends: u64) -
     requires { ⌜ at + sectionBytes ≤ length (now out) ⌝ }
     ensures { λ r. ⌜ (r ≡ at + sectionBytes) × (now (out .exit) ≡ laid (now (out .entry)) at (sectionLine section wear bends)) ⌝ }
 {
-    let a = put_field(out, at, COLUMNS, section);
-    let b = put_field(out, a, WIDE_COLUMNS, wear);
-    let c = put_field(out, b, WIDE_COLUMNS, bends);
-    put_line_end(out, c)
+    let a = columns::put_number(out, at, COLUMNS, section);
+    let b = columns::put_number(out, a, WIDE_COLUMNS, wear);
+    let c = columns::put_number(out, b, WIDE_COLUMNS, bends);
+    columns::put_line_end(out, c)
 }
 
 // Retired wear.
@@ -89,8 +39,8 @@ fn put_retired(out: &mut [u8], at: usize, retired: u64) -> usize
     requires { ⌜ at + retiredBytes ≤ length (now out) ⌝ }
     ensures { λ r. ⌜ (r ≡ at + retiredBytes) × (now (out .exit) ≡ laid (now (out .entry)) at (retiredLine retired)) ⌝ }
 {
-    let a = put_field(out, at, WIDE_COLUMNS, retired);
-    put_line_end(out, a)
+    let a = columns::put_number(out, at, WIDE_COLUMNS, retired);
+    columns::put_line_end(out, a)
 }
 
 // A refusal's number.
@@ -98,8 +48,8 @@ pub fn put_refusal(out: &mut [u8], refusal: u64) -> usize
     requires { ⌜ refusalBytes ≤ length (now out) ⌝ }
     ensures { λ r. ⌜ (r ≡ refusalBytes) × (now (out .exit) ≡ laid (now (out .entry)) 0 (refusalLine refusal)) ⌝ }
 {
-    let a = put_field(out, 0, COLUMNS, refusal);
-    put_line_end(out, a)
+    let a = columns::put_number(out, 0, COLUMNS, refusal);
+    columns::put_line_end(out, a)
 }
 
 // One line per answer, the entries numbered from 1.

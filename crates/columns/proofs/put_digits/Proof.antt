@@ -1,23 +1,23 @@
--- `report::put_number` meets its contract. The invariant: the columns still to write, before those that are written, are the field.
+-- `columns::put_digits` meets its contract. The invariant: the columns still to write, before those that are written, are the field.
 use Prim.Native.Nat.{ℕ, _<_, _-_, _/_}
 use mathlib.Core.Path.{_≡_, refl, ap, sym, _∙_}
 use mathlib.Core.List.{List, _∷_, _++_}
 use native.Mathlib.Omega.{arith}
 use lib.ListN.{length, drop, length-set}
 use lib.Seq.{drop-length}
-use Rattle.text.specs.Field.{columns}
-use Rattle.report.specs.Lines.{printed}
-use Rattle.report.proofs.Laws.{columns-none, last-column, column-step, column-put}
+use Rattle.text.specs.Field.{columns, lastDigit}
+use Rattle.columns.specs.Column.{signLeft}
+use Rattle.columns.proofs.Laws.{columns-none, last-column, column-step, column-put}
 use borrow.Author.Needs.{needs}
-use Rattle.report.proofs.put_number.Statement.{statement}
-use Rattle.report.proofs.put_number.Tie as tie
+use Rattle.columns.proofs.put_digits.Statement.{statement}
+use Rattle.columns.proofs.put_digits.Tie as tie
 
 abbrev Inv-loop : tie.InvT-loop
-Inv-loop field₀ n k₀ left₀ field k left =
-    (k < length field) × (length field ≡ length field₀) × (printed (length field₀) n ≡ columns k 32 left ++ drop k field)
+Inv-loop field₀ sign n k₀ left₀ g₀ field k left g =
+    (k < length field) × (length field ≡ length field₀) × (lastDigit (length field₀) sign n ≡ columns k g left ++ drop k field)
 
 abbrev μ-loop : tie.MeasureT-loop
-μ-loop field₀ n k₀ left₀ field k left = k
+μ-loop field₀ sign n k₀ left₀ g₀ field k left g = k
 
 sub-k : tie.Need-sub-k Inv-loop μ-loop
 sub-k c = search needs
@@ -37,9 +37,9 @@ loop-holds c =
     let w = length-set s (length s - 1) (f .result) in (
       rw w (omega arith),
       refl,
-      ap (λ (k : ℕ). printed k (a .n)) w
-          ∙ last-column (length s) (a .n) p
-          ∙ ap (λ (t : List ℕ). columns (length s - 1) 32 (a .n / 10) ++ t)
+      ap (λ (k : ℕ). lastDigit k (a .sign) (a .n)) w
+          ∙ last-column (length s) (a .sign) (a .n) p
+          ∙ ap (λ (t : List ℕ). columns (length s - 1) (a .sign) (a .n / 10) ++ t)
           (rw (← f .ensures) (sym (column-put s (length s) (f .result) p (omega arith) ∙ ap (λ (t : List ℕ). f .result ∷ t) (drop-length s)))),
     )
 
@@ -62,8 +62,8 @@ loop-again c =
     let p = c .before .loop-test .taken in (
       simp length-set (omega arith),
       length-set (l .field) (l .k - 1) b ∙ l .inv .1,
-      column-step (l .field) _ (l .k) (l .left) p (l .inv .2)
-          ∙ ap (λ (t : List ℕ). columns (l .k - 1) 32 (l .left / 10) ++ t)
+      column-step (l .field) _ (l .k) (l .g) (l .left) p (l .inv .2)
+          ∙ ap (λ (t : List ℕ). columns (l .k - 1) (signLeft (l .g) (l .left)) (l .left / 10) ++ t)
           (rw (← c .column .ensures) (sym (column-put (l .field) (l .k) b p (omega arith)))),
     )
 
@@ -78,15 +78,15 @@ returns c =
     let s = a .field .now in
     let l = c .before .loop in
     let z : l .k ≡ 0 = omega arith in
-    let e : printed (length s) (a .n) ≡ l .field =
-    ap (λ (k : ℕ). printed k (a .n)) (sym (length-set s (length s - 1) (c .before .before .digit .result)))
+    let e : lastDigit (length s) (a .sign) (a .n) ≡ l .field =
+    ap (λ (k : ℕ). lastDigit k (a .sign) (a .n)) (sym (length-set s (length s - 1) (c .before .before .digit .result)))
     ∙ l .inv .2
-    ∙ ap (λ (k : ℕ). columns k 32 (l .left) ++ drop k (l .field)) z
-    ∙ ap (λ (t : List ℕ). t ++ l .field) (columns-none (l .left)) in
+    ∙ ap (λ (k : ℕ). columns k (l .g) (l .left) ++ drop k (l .field)) z
+    ∙ ap (λ (t : List ℕ). t ++ l .field) (columns-none (l .g) (l .left)) in
     sym e
 
-pub put-number-spec : {M : Type 1} → statement M
-put-number-spec =
+pub put-digits-spec : {M : Type 1} → statement M
+put-digits-spec =
     tie.close
     (tie.spec
     Inv-loop

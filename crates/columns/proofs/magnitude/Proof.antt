@@ -1,4 +1,4 @@
--- `answer_lines::magnitude` meets its contract: below 0 by way of the distance from -1, which an i64 always holds.
+-- `columns::magnitude` meets its contract: below 0 by way of the distance from -1, which an i64 always holds.
 use Prim.Native.Nat.{_-_}
 use borrow.Author.Needs.{needs}
 use mathlib.Core.Bool.{true}
@@ -9,9 +9,9 @@ use lib.Signed.{ltZ}
 use mir.Facts.{toZ-ofZ, fits-natAbs}
 use mir.Syntax.{w64}
 use mir.Val.{toZ, ofZ}
-use Rattle.answer_lines.specs.Laws.{from-minus-one, natAbs-below, size-nonneg}
-use Rattle.answer_lines.proofs.magnitude.Statement.{statement}
-use Rattle.answer_lines.proofs.magnitude.Tie as tie
+use Rattle.columns.proofs.Laws.{from-minus-one, natAbs-below, size-nonneg}
+use Rattle.columns.proofs.magnitude.Statement.{statement}
+use Rattle.columns.proofs.magnitude.Tie as tie
 
 test : (c : tie.Then1) → ltZ (c .before .args .z) (pos 0) ≡ true
 test c = rw (toZ-ofZ {w = w64} (c .before .fits .z)) at (c .if1 .taken)

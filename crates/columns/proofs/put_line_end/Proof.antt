@@ -1,10 +1,10 @@
--- `report::put_line_end` meets its contract: a store of one byte.
+-- `columns::put_line_end` meets its contract: a store of one byte.
 use mathlib.Core.Path.{refl}
 use lib.Seq.{set-split}
 use native.Mathlib.Numerals.{add-one}
 use borrow.Author.Needs.{needs}
-use Rattle.report.proofs.put_line_end.Statement.{statement}
-use Rattle.report.proofs.put_line_end.Tie as tie
+use Rattle.columns.proofs.put_line_end.Statement.{statement}
+use Rattle.columns.proofs.put_line_end.Tie as tie
 
 slice-write-out : tie.Need-slice-write-out
 slice-write-out c = search needs
