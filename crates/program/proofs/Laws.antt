@@ -21,7 +21,7 @@ use Rattle.log.specs.Log.{entriesMax, logOf}
 use Rattle.log.specs.Log.Log.{entries, refused}
 use Rattle.report.specs.Lines.{refusalLine, programSections}
 use Rattle.estivolh.specs.Account.{queries}
-use Rattle.report.specs.Laid.{laid}
+use Rattle.columns.specs.Laid.{laid}
 use Rattle.program.specs.Program.{programBook, afterChart, entriesPrinted, refusalPrinted, ranOf, printedOf, Printed, WholeEntries}
 
 -- ---- one answer for each entry

@@ -14,7 +14,7 @@ use Rattle.estivolh.specs.Account.{queries}
 use Rattle.log.specs.Log.{Log, entriesMax, logOf}
 use Rattle.log.specs.Log.Log.{entries, refused}
 use Rattle.report.specs.Lines.{answerBytes, bookBytes, programSections, refusalLine, outputOf}
-use Rattle.report.specs.Laid.{laid}
+use Rattle.columns.specs.Laid.{laid}
 
 -- 01 "Program": "The book has 2 sections"
 abbrev pub programBook : Book

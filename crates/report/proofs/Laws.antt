@@ -8,7 +8,7 @@ use native.Mathlib.Numerals.{add-one}
 use lib.ListN.{length, take, drop, getD, set, length-set}
 use lib.Seq.{drop-cons, getD-set-same, drop-set-lt, take-suc, length-take-le}
 use Rattle.text.specs.Field.{columns, lastDigit, fieldText}
-use Rattle.report.specs.Lines.{columnByte, printed, answerLine, answerLines, sectionLine, sectionLines}
+use Rattle.report.specs.Lines.{answerLine, answerLines, sectionLine, sectionLines}
 
 -- One answer more at the end.
 answers-snoc : (j a : ℕ) (s : List ℕ) → answerLines j (s ++ (a ∷ [])) ≡ answerLines j s ++ answerLine (j + length s) a

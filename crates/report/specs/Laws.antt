@@ -4,25 +4,25 @@ use mathlib.Core.List.{List, [], _∷_}
 use mathlib.Core.Path.{_≡_, refl}
 use native.Mathlib.Omega.{arith}
 use lib.ListN.{length, length-append}
-use Rattle.columns.specs.Printed.{printed-length}
+use Rattle.text.specs.Written.{field-length}
 use Rattle.book.specs.declared.Book.{Book}
 use Rattle.report.specs.Lines.{answerBytes, sectionBytes, retiredBytes, refusalBytes, bookBytes, answerLine, sectionLine, retiredLine, refusalLine, answerLines, sectionLines, bookLines, outputOf}
 
 pub answer-length : (i a : ℕ) → length (answerLine i a) ≡ answerBytes
 unfolding answerLine
-answer-length i a = simp (length-append, printed-length)
+answer-length i a = simp (length-append, field-length)
 
 pub section-length : (s w c : ℕ) → length (sectionLine s w c) ≡ sectionBytes
 unfolding sectionLine
-section-length s w c = simp (length-append, printed-length)
+section-length s w c = simp (length-append, field-length)
 
 pub retired-length : (w : ℕ) → length (retiredLine w) ≡ retiredBytes
 unfolding retiredLine
-retired-length w = simp (length-append, printed-length)
+retired-length w = simp (length-append, field-length)
 
 pub refusal-length : (n : ℕ) → length (refusalLine n) ≡ refusalBytes
 unfolding refusalLine
-refusal-length n = simp (length-append, printed-length)
+refusal-length n = simp (length-append, field-length)
 
 pub answers-length : (i : ℕ) (s : List ℕ) → length (answerLines i s) ≡ answerBytes * length s
 unfolding answerLines

@@ -118,7 +118,7 @@ minus-neg (suc k) (suc m) t h =
     rw (append-assoc (columns (suc k) 45 (suc m / 10)) ((48 + suc m % 10) ∷ []) t) (minus-neg k (suc m / 10) ((48 + suc m % 10) ∷ t) (omega arith))
 
 -- the text of n with a sign is as wide as it should be
-signed-length : (w g n : ℕ) → length (lastDigit w g n) ≡ w
+pub signed-length : (w g n : ℕ) → length (lastDigit w g n) ≡ w
 unfolding lastDigit
 signed-length zero g n = refl
 signed-length (suc k) g n = simp (length-append, columns-length k g (n / 10)) (omega arith)

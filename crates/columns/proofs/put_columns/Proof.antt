@@ -5,7 +5,7 @@ use native.Mathlib.Omega.{arith}
 use borrow.Rule.Slice.PartMut.{post-is}
 use lib.ListN.{length, take, drop, length-take, length-drop}
 use Rattle.text.specs.Field.{lastDigit}
-use Rattle.text.specs.Written.{text-length}
+use Rattle.text.specs.Written.{signed-length}
 use borrow.Author.Needs.{needs}
 use Rattle.columns.proofs.put_columns.Statement.{statement}
 use Rattle.columns.proofs.put_columns.Tie as tie
@@ -35,7 +35,7 @@ returns c =
     let f = c .before .before .put-digits in
     let k : length (take (e - a .at) (drop (a .at) (a .out .now))) ≡ a .w = simp (length-take, length-drop) (omega arith) in
     let n : f .last .0 ≡ lastDigit (a .w) (a .sign) (a .n) = f .ensures ∙ ap (λ (w : ℕ). lastDigit w (a .sign) (a .n)) k in
-    (refl, rw (n, text-length (a .w) (a .sign) (a .n), post-is (a .at) e (a .out .now) (omega arith)) refl)
+    (refl, rw (n, signed-length (a .w) (a .sign) (a .n), post-is (a .at) e (a .out .now) (omega arith)) refl)
 
 pub put-columns-spec : {M : Type 1} → statement M
 put-columns-spec =

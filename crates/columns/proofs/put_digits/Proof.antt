@@ -6,7 +6,6 @@ use native.Mathlib.Omega.{arith}
 use lib.ListN.{length, drop, length-set}
 use lib.Seq.{drop-length}
 use Rattle.text.specs.Field.{columns, lastDigit}
-use Rattle.columns.specs.Column.{signLeft}
 use Rattle.columns.proofs.Laws.{columns-none, last-column, column-step, column-put}
 use borrow.Author.Needs.{needs}
 use Rattle.columns.proofs.put_digits.Statement.{statement}
@@ -52,19 +51,23 @@ column-requires c κs = search needs
 slice-write-field-2 : tie.Need-slice-write-field-2 Inv-loop μ-loop
 slice-write-field-2 c = search needs
 
+sign-left-requires : tie.Need-sign-left-requires Inv-loop μ-loop
+sign-left-requires c κs = search needs
+
 loop-less : tie.Need-loop-less Inv-loop μ-loop
 loop-less c = search needs
 
 loop-again : tie.Need-loop-again Inv-loop μ-loop
 loop-again c =
-    let l = c .before .before .loop in
-    let b = c .column .result in
-    let p = c .before .loop-test .taken in (
+    let l = c .before .before .before .loop in
+    let f = c .before .column in
+    let b = f .result in
+    let p = c .before .before .loop-test .taken in (
       simp length-set (omega arith),
       length-set (l .field) (l .k - 1) b ∙ l .inv .1,
       column-step (l .field) _ (l .k) (l .g) (l .left) p (l .inv .2)
-          ∙ ap (λ (t : List ℕ). columns (l .k - 1) (signLeft (l .g) (l .left)) (l .left / 10) ++ t)
-          (rw (← c .column .ensures) (sym (column-put (l .field) (l .k) b p (omega arith)))),
+          ∙ rw (← f .ensures, ← c .sign-left .ensures)
+          (ap (λ (t : List ℕ). columns (l .k - 1) (c .sign-left .result) (l .left / 10) ++ t) (sym (column-put (l .field) (l .k) b p (omega arith)))),
     )
 
 same-length : tie.Need-same-length Inv-loop μ-loop
@@ -98,6 +101,7 @@ put-digits-spec =
     sub-k-2
     column-requires
     slice-write-field-2
+    sign-left-requires
     loop-less
     loop-again
     same-length

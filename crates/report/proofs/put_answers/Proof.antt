@@ -5,7 +5,7 @@ use native.Mathlib.Omega.{arith}
 use lib.ListN.{length, take, getD}
 use lib.Seq.{length-take-le, take-length}
 use Rattle.report.specs.Lines.{answerBytes, answerLine, answerLines}
-use Rattle.report.specs.Laid.{laid, laid-none, then-laid}
+use Rattle.columns.specs.Laid.{laid, laid-none, then-laid}
 use Rattle.report.specs.Laws.{answers-length}
 use Rattle.report.proofs.Laws.{answers-none, answers-next}
 use borrow.Author.Needs.{needs}

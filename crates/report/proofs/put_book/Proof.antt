@@ -2,7 +2,7 @@
 use Prim.Native.Nat.{_*_}
 use native.Mathlib.Omega.{arith}
 use Rattle.report.specs.Lines.{sectionBytes, sectionLines, retiredLine, bookLines, programSections}
-use Rattle.report.specs.Laid.{then-laid}
+use Rattle.columns.specs.Laid.{then-laid}
 use Rattle.report.specs.Laws.{sections-length}
 use borrow.Author.Needs.{needs}
 use Rattle.report.proofs.put_book.Statement.{statement}

@@ -3,7 +3,7 @@ use Prim.Native.Nat.{_*_}
 use native.Mathlib.Omega.{arith}
 use lib.ListN.{length}
 use Rattle.report.specs.Lines.{answerBytes, answerLines, bookLines, outputOf}
-use Rattle.report.specs.Laid.{then-laid}
+use Rattle.columns.specs.Laid.{then-laid}
 use Rattle.report.specs.Laws.{answers-length}
 use borrow.Author.Needs.{needs}
 use Rattle.report.proofs.put_output.Statement.{statement}

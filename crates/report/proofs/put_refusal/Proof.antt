@@ -1,16 +1,18 @@
 -- `report::put_refusal` meets its contract: its fields, then LF, one after the other.
 use mathlib.Core.List.{[], _∷_}
 use native.Mathlib.Omega.{arith}
+use lib.IntN.{pos}
 use Rattle.text.specs.Field.{fieldWidth}
-use Rattle.report.specs.Lines.{lineFeed, printed, refusalLine}
-use Rattle.report.specs.Laid.{then-laid}
-use Rattle.report.specs.Laws.{printed-length}
+use Rattle.columns.specs.Printed.{lineFeed, printed}
+use Rattle.report.specs.Lines.{refusalLine}
+use Rattle.columns.specs.Laid.{then-laid}
+use Rattle.text.specs.Written.{field-length}
 use borrow.Author.Needs.{needs}
 use Rattle.report.proofs.put_refusal.Statement.{statement}
 use Rattle.report.proofs.put_refusal.Tie as tie
 
-put-field-requires : tie.Need-put-field-requires
-put-field-requires c κs = search needs
+put-number-requires : tie.Need-put-number-requires
+put-number-requires c κs = search needs
 
 put-line-end-requires : tie.Need-put-line-end-requires
 put-line-end-requires c κs = search needs
@@ -22,12 +24,12 @@ returns : tie.Need-returns
 unfolding refusalLine
 returns c =
     let a = c .before .before .before .before .before .before .before .before .before .args in
-    let p = c .before .before .before .before .before .before .put-field in (
+    let p = c .before .before .before .before .before .before .put-number in (
       omega arith,
-      then-laid (a .out .now) 0 (printed fieldWidth (a .refusal)) (lineFeed ∷ []) fieldWidth (p .result) (p .last .0) _ (printed-length fieldWidth (a .refusal)) (omega arith) (p .ensures .0) (p .ensures .1)
+      then-laid (a .out .now) 0 (printed fieldWidth (a .refusal)) (lineFeed ∷ []) fieldWidth (p .result) (p .last .0) _ (field-length fieldWidth (pos (a .refusal))) (omega arith) (p .ensures .0) (p .ensures .1)
           (c .before .before .put-line-end .ensures .1),
     )
 
 pub put-refusal-spec : {M : Type 1} → statement M
 put-refusal-spec =
-    tie.close (tie.spec put-field-requires put-line-end-requires same-length returns)
+    tie.close (tie.spec put-number-requires put-line-end-requires same-length returns)

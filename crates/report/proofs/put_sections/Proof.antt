@@ -4,7 +4,7 @@ use mathlib.Core.Path.{_≡_, refl, _∙_}
 use native.Mathlib.Omega.{arith}
 use lib.ListN.{length, getD}
 use Rattle.report.specs.Lines.{sectionBytes, sectionLine, sectionLines, programSections}
-use Rattle.report.specs.Laid.{laid, laid-none, then-laid}
+use Rattle.columns.specs.Laid.{laid, laid-none, then-laid}
 use Rattle.report.specs.Laws.{sections-length}
 use Rattle.report.proofs.Laws.{sections-none, sections-next}
 use Rattle.report.proofs.put_sections.Statement.{statement}
