@@ -7,7 +7,7 @@ use native.Mathlib.Nat.{add-zero}
 use lib.Dec.{eqb, ltb}
 use lib.IntN.{ℤ, pos, negsuc}
 use lib.ListN.{length, getD, length-map, List·getD-map}
-use borrow.Author.Tests.{ltb-true, ltb-false, eqb-true, not-false}
+use borrow.Author.Tests.{ltb-true, ltb-false, eqb-true, not-false, le-ltb, eq-eqb}
 use Rattle.whole.specs.Bools.{or-false}
 use Rattle.whole.specs.Bound.{outside}
 use Rattle.whole.specs.First.{some, none-at}
@@ -52,6 +52,20 @@ counted v e f h =
       f-most = z .1;
     }
 
+-- and it lets such counts pass
+pub counts-pass : (v e f : ℕ) → Counted v e f → countsRefused (pos v) (pos e) (pos f) ≡ false
+unfolding countsRefused
+counts-pass v e f r =
+    rw (
+      le-ltb v LeastVertices (r .v-least),
+      le-ltb MostVertices v (r .v-most),
+      eq-eqb (e % 2) 0 (r .e-even),
+      le-ltb e LeastHalfEdges (r .e-least),
+      le-ltb MostHalfEdges e (r .e-most),
+      le-ltb f LeastFaces (r .f-least),
+      le-ltb MostFaces f (r .f-most),
+    )
+
 -- a count that passes is no negative number
 not-negative : (lo hi : ℕ) (z : ℤ) → outside (pos lo) (pos hi) z ≡ false → pos (unsigned z) ≡ z
 not-negative lo hi (pos n) e = refl
@@ -91,14 +105,14 @@ module _ (vs es fs : List ℤ) (h : outOfRange vs es fs ≡ false) where
       (a .0, or-false (some (badHalfEdge (rows vs) (length fs) es) (rows es)) (some (badFace (rows es) fs) (length fs)) (a .1))
 
   -- what it leaves of a vertex
-  vertex : (v : ℕ) → v < rows vs → (offGrid (placeOf vs v) ≡ false) × ((outside (pos 0) (pos ValueMax) (valueOf vs v) ≡ false) × (notBelow (rows es) (cell vs v 3) ≡ false))
+  pub vertex : (v : ℕ) → v < rows vs → (offGrid (placeOf vs v) ≡ false) × ((outside (pos 0) (pos ValueMax) (valueOf vs v) ≡ false) × (notBelow (rows es) (cell vs v 3) ≡ false))
   unfolding badVertex
   vertex v l =
       let a = or-false (offGrid (placeOf vs v)) _ (none-at (badVertex (rows es) vs) (rows vs) (parts .0) v l) in
       (a .0, or-false (outside (pos 0) (pos ValueMax) (valueOf vs v)) (notBelow (rows es) (cell vs v 3)) (a .1))
 
   -- of a half-edge
-  edge : (k : ℕ) → k < rows es → (notBelow (rows vs) (cell es k 0) ≡ false) × ((notBelow (rows es) (cell es k 1) ≡ false) × ((notBelow (rows es) (cell es k 2) ≡ false) × (notBelow (length fs) (cell es k 3) ≡ false)))
+  pub edge : (k : ℕ) → k < rows es → (notBelow (rows vs) (cell es k 0) ≡ false) × ((notBelow (rows es) (cell es k 1) ≡ false) × ((notBelow (rows es) (cell es k 2) ≡ false) × (notBelow (length fs) (cell es k 3) ≡ false)))
   unfolding badHalfEdge
   edge k l =
       let a = or-false (notBelow (rows vs) (cell es k 0)) _ (none-at (badHalfEdge (rows vs) (length fs) es) (rows es) (parts .1 .0) k l) in
@@ -106,7 +120,7 @@ module _ (vs es fs : List ℤ) (h : outOfRange vs es fs ≡ false) where
       (a .0, (b .0, or-false (notBelow (rows es) (cell es k 2)) (notBelow (length fs) (cell es k 3)) (b .1)))
 
   -- of a face
-  face : (f : ℕ) → f < length fs → notBelow (rows es) (getD fs f (pos 0)) ≡ false
+  pub face : (f : ℕ) → f < length fs → notBelow (rows es) (getD fs f (pos 0)) ≡ false
   unfolding badFace
   face f l = none-at (badFace (rows es) fs) (length fs) (parts .1 .1) f l
 

@@ -1,3 +1,4 @@
 pub mod Reading
 pub mod Laws
 pub mod Text
+pub mod Written
