@@ -1,14 +1,16 @@
-/* The public calls of Estivolh for C: wear charts and the rope book. Version 1.1.0.
+/* The public calls of Estivolh for C: wear charts and the rope book. Version 1.2.0.
  *
  * Link libestivolh_c.a (rt staticlib estivolh_c writes it, for x86-64 Linux); of the C library it needs memcpy and memset.
  *
+ * NEW IN 1.2.0: estivolh_write_chart, and refusal 18, which no other call gives. All else is as in 1.1.0; callers change nothing.
  * NEW IN 1.1.0, and it breaks callers' source: the names of the refusals begin with ESTIVOLH_REFUSED_ (ESTIVOLH_OUTSIDE is now
  * ESTIVOLH_REFUSED_OUTSIDE), so that none is taken for a position or for an index of the book; and compilers warn where a call's number
  * is dropped. Numbers, functions and slices are those of 1.0.0: what is compiled already links and runs as before. CHANGELOG.md.
  *
- * What a chart, a log, a book and an answer are: docs/FORMATS.md. "01" is the paper that defined them; that page says what it says. A
- * chart is the bytes of a chart file, which each call checks. Vertices, half-edges and faces are numbered from 0 in the order of the
- * file; face 0 is the outer one. x and y are whole numbers from -10000 to 10000, in the chart's units. Floats are IEEE 754 doubles.
+ * What a chart, a log, a book and an answer are: docs/FORMATS.md. "01" is the paper that defined them, "02" the one that added to it; that
+ * page says what they say. A chart is the bytes of a chart file, which each call checks; estivolh_write_chart alone is lent a chart's
+ * tables, and checks those. Vertices, half-edges and faces are numbered from 0 in the order of the file; face 0 is the outer one. x and y
+ * are whole numbers from -10000 to 10000, in the chart's units. Floats are IEEE 754 doubles.
  *
  * PROVED, for every content of every slice: each call returns 0 where it is accepted, or else the number of the refusal that meets it first
  * (enum estivolh_refusal), and then it has written nothing. A lent slice is a pointer and the number of its elements. Where this header
@@ -45,7 +47,7 @@ extern "C" {
 #endif
 
 /* The version of this header and the library: 10000 * major + 100 * minor + patch. */
-#define ESTIVOLH_VERSION 10100
+#define ESTIVOLH_VERSION 10200
 
 /* Whoever drops a call's number takes a refused call for an accepted one, so a compiler that can is told to warn. */
 #if defined(__GNUC__)
@@ -60,7 +62,8 @@ enum estivolh_refusal {
     ESTIVOLH_ACCEPTED = 0,
     ESTIVOLH_REFUSED_BOOK = 1,          /* sections not 1 to 16; wear and retired wear together, or a bend count, above 10^12; a section
                                            that the book does not have is not all zero */
-    ESTIVOLH_REFUSED_SLICES = 2,        /* a lent slice is too short, or the entries are no multiple of five numbers */
+    ESTIVOLH_REFUSED_SLICES = 2,        /* a lent slice is too short, the entries are no multiple of five numbers, or the vertices or
+                                           half-edges that are to be written no multiple of four */
     ESTIVOLH_REFUSED_CHART_LENGTH = 3,  /* fewer than 25 bytes, or not the length that the counts on line 1 give */
     ESTIVOLH_REFUSED_CHART_COUNTS = 4,  /* vertices not 3 to 128, half-edges odd or not 6 to 756, faces not 2 to 252 */
     ESTIVOLH_REFUSED_CHART_FIELD = 5,   /* a malformed field or line end */
@@ -76,7 +79,8 @@ enum estivolh_refusal {
     ESTIVOLH_REFUSED_NO_PLACE = 15,     /* no place found; for natural weights, and values by methods 2 and 3, a broken turn about a
                                            neighbour */
     ESTIVOLH_REFUSED_NO_CHARGE = 16,    /* the value is not a number, below -0.5, or at least 1000000.5 */
-    ESTIVOLH_REFUSED_FULL = 17          /* the charge would take wear and retired wear together above 10^12, or the section has 10^12 bends */
+    ESTIVOLH_REFUSED_FULL = 17,         /* the charge would take wear and retired wear together above 10^12, or the section has 10^12 bends */
+    ESTIVOLH_REFUSED_TEXT_ROOM = 18     /* the lent buffer is shorter than the text */
 };
 
 /* Added to the number of the refusal in the answer of an entry that is refused alone. Answers of accepted entries are at most 1000000. */
@@ -101,6 +105,9 @@ enum estivolh_position { ESTIVOLH_ON_VERTEX = 1, ESTIVOLH_ON_EDGE = 2, ESTIVOLH_
 
 /* The most half-edges that a chart has: slices of this length have room for every chart. */
 #define ESTIVOLH_HALF_EDGES_MAX 756
+
+/* The most bytes that a chart has, 25 + 33 * 128 + 33 * 756 + 9 * 252: a buffer of this length has room for the text of every chart. */
+#define ESTIVOLH_CHART_BYTES_MAX 31465
 
 /* Of every call below: 'writes' is what it writes where it returns 0. Where it returns another number it writes nothing. */
 
@@ -173,6 +180,19 @@ uint64_t estivolh_fresh(uint64_t sections, uint64_t *book, size_t book_length);
 ESTIVOLH_MUST_CHECK
 uint64_t estivolh_batch(uint64_t *book, size_t book_length, const uint8_t *chart, size_t chart_length, const int64_t *entries,
                         size_t entries_length, uint64_t *answers, size_t answers_length);
+
+/* A chart's tables, written back as chart text. vertices has 4 numbers for each vertex (x, y, value, out), half_edges 4 for each half-edge
+ * (origin, next, prev, face), faces one for each face (adjacent), in the order of a chart file; any numbers may be lent. The lengths say
+ * how many vertices v, half-edges e and faces f there are. found has a stated length of 1. The text has 25 + 33 * v + 33 * e + 9 * f bytes:
+ * text must have as many, which is tested last of all, and gets 18.
+ * Writes the text into the first n bytes of text, and found[0], its length n. No NUL is put after it, and the bytes past it are as they
+ * were. The text is an accepted chart whose numbers are the lent ones; where these are the numbers of an accepted chart file, the text is
+ * that file, byte for byte.
+ * Refusals: 2 (found too short); 2 (vertices or half_edges no multiple of four numbers; of faces it is not asked); 4; 6 to 11; 18. */
+ESTIVOLH_MUST_CHECK
+uint64_t estivolh_write_chart(const int64_t *vertices, size_t vertices_length, const int64_t *half_edges, size_t half_edges_length,
+                              const int64_t *faces, size_t faces_length, uint8_t *text, size_t text_length, uint64_t *found,
+                              size_t found_length);
 
 #ifdef __cplusplus
 }

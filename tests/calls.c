@@ -1,7 +1,8 @@
-/* Every exported function on triangle A (its path is the argument): with a lent slice too short by one, which must get 2 and leave every
- * slice as it was; refused otherwise, with the same; accepted, with 01's answers ("Loads at the rim") and the oracle's floats, and every
- * element past the named ones as it was. Each slice ends at a page that cannot be touched. All of it once for each guard: as it was means
- * the same 64 bits, also where a float's are those of a not-a-number, which a copy through a float register could change. */
+/* Every exported function on triangle A (its path is the first argument): with a lent slice too short by one, which must get 2 and leave
+ * every slice as it was; refused otherwise, with the same; accepted, with 01's answers ("Loads at the rim") and the oracle's floats, and
+ * every element past the named ones as it was. Each slice ends at a page that cannot be touched. All of it once for each guard: as it was
+ * means the same 64 bits, also where a float's are those of a not-a-number, which a copy through a float register could change. Charts are
+ * written back beside the files that they were read from: triangle A's and the square's (its path is the second argument). */
 #define _DEFAULT_SOURCE
 #include <inttypes.h>
 #include <stdio.h>
@@ -26,19 +27,22 @@ static void expect(int holds, int line) {
 }
 #define EXPECT(x) expect((x), __LINE__)
 
-/* n elements of 8 bytes that end at the wall, each with the guard's bits. They are never given back. */
-static void *lent(size_t n) {
-    uint8_t *at = mmap(NULL, (PAGES + 1) * PAGE, PROT_READ | PROT_WRITE, MAP_PRIVATE | MAP_ANONYMOUS, -1, 0);
-    if (at == MAP_FAILED || mprotect(at + PAGES * PAGE, PAGE, PROT_NONE) != 0) {
+/* So many bytes that end at the wall, each with the guard's of its place: of n elements of 8 bytes each has the guard's bits. They are never
+ * given back. */
+static uint8_t *lent_bytes(size_t bytes) {
+    size_t pages = bytes / PAGE + 1;
+    uint8_t *at = mmap(NULL, (pages + 1) * PAGE, PROT_READ | PROT_WRITE, MAP_PRIVATE | MAP_ANONYMOUS, -1, 0);
+    if (at == MAP_FAILED || mprotect(at + pages * PAGE, PAGE, PROT_NONE) != 0) {
         perror("lent");
         return NULL;
     }
-    uint8_t *first = at + PAGES * PAGE - 8 * n;
-    for (size_t i = 0; i < n; i++) {
-        memcpy(first + 8 * i, &guard, 8);
+    uint8_t *first = at + pages * PAGE - bytes;
+    for (size_t i = 0; i < bytes; i++) {
+        first[i] = ((const uint8_t *)&guard)[i % 8];
     }
     return first;
 }
+static void *lent(size_t n) { return lent_bytes(8 * n); }
 
 /* Whether the elements from one on still have the guard's bits. */
 static int kept(const void *p, size_t from, size_t n) {
@@ -52,11 +56,21 @@ static int kept(const void *p, size_t from, size_t n) {
     return 1;
 }
 
+/* Whether the bytes from one on still have the guard's; no guard has a byte that chart text has. */
+static int kept_bytes(const uint8_t *p, size_t from, size_t n) {
+    for (size_t i = from; i < n; i++) {
+        if (p[i] != ((const uint8_t *)&guard)[i % 8]) {
+            return 0;
+        }
+    }
+    return 1;
+}
+
 /* A float's 64 bits are these. */
 static int has_bits(double f, uint64_t bits) { return memcmp(&f, &bits, 8) == 0; }
 
-static uint8_t *chart;
-static size_t size;
+static uint8_t *chart, *square_chart;
+static size_t size, square_size;
 
 static void check(void) {
     EXPECT(estivolh_check(chart, size) == 0);
@@ -216,6 +230,215 @@ static void batch(void) {
     }
 }
 
+/* A chart's tables, each in a slice that ends at the wall, with their lengths. */
+struct tables {
+    int64_t *vertices, *half_edges, *faces;
+    size_t v, e, f;
+};
+
+static int64_t *lent_numbers(const int64_t *numbers, size_t n) {
+    int64_t *first = lent(n);
+    memcpy(first, numbers, 8 * n);
+    return first;
+}
+
+static struct tables triangle(void) {
+    static const int64_t v[] = {0, 0, 100, 0, 10, 0, 200, 2, 0, 10, 300, 4};
+    static const int64_t e[] = {0, 2, 4, 1, 1, 5, 3, 0, 1, 4, 0, 1, 2, 1, 5, 0, 2, 0, 2, 1, 0, 3, 1, 0};
+    static const int64_t f[] = {1, 0};
+    struct tables t = {lent_numbers(v, 12), lent_numbers(e, 24), lent_numbers(f, 2), 12, 24, 2};
+    return t;
+}
+
+static struct tables square(void) {
+    static const int64_t v[] = {0, 0, 100, 0, 10, 0, 200, 2, 10, 10, 500, 4, 0, 10, 300, 6};
+    static const int64_t e[] = {0, 2, 9, 1, 1, 7, 3, 0, 1, 9, 0, 1, 2, 1, 5, 0, 2, 6, 8, 2,
+                                3, 3, 7, 0, 3, 8, 4, 2, 0, 5, 1, 0, 0, 4, 6, 2, 2, 0, 2, 1};
+    static const int64_t f[] = {1, 0, 8};
+    struct tables t = {lent_numbers(v, 16), lent_numbers(e, 40), lent_numbers(f, 3), 16, 40, 3};
+    return t;
+}
+
+/* Tables of zeros. */
+static struct tables zeros(size_t v, size_t e, size_t f) {
+    struct tables t = {lent(v), lent(e), lent(f), v, e, f};
+    memset(t.vertices, 0, 8 * v);
+    memset(t.half_edges, 0, 8 * e);
+    memset(t.faces, 0, 8 * f);
+    return t;
+}
+
+/* Of tables the last so many numbers, so that the slices still end at the wall; of none, the wall itself. */
+static struct tables last(struct tables t, size_t v, size_t e, size_t f) {
+    struct tables u = {t.vertices + (t.v - v), t.half_edges + (t.e - e), t.faces + (t.f - f), v, e, f};
+    return u;
+}
+
+static uint64_t write_back(struct tables t, uint8_t *text, size_t room, uint64_t *found, size_t found_length) {
+    return estivolh_write_chart(t.vertices, t.v, t.half_edges, t.e, t.faces, t.f, text, room, found, found_length);
+}
+
+/* The chart text of tables as printf gives it, and its length. */
+static size_t text_of(struct tables t, char *text, size_t most) {
+    size_t n = (size_t)snprintf(text, most, "%8zu%8zu%8zu\n", t.v / 4, t.e / 4, t.f);
+    for (size_t i = 0; i < t.v + t.e; i++) {
+        int64_t number = i < t.v ? t.vertices[i] : t.half_edges[i - t.v];
+        n += (size_t)snprintf(text + n, most - n, i % 4 == 3 ? "%8" PRId64 "\n" : "%8" PRId64, number);
+    }
+    for (size_t i = 0; i < t.f; i++) {
+        n += (size_t)snprintf(text + n, most - n, "%8" PRId64 "\n", t.faces[i]);
+    }
+    return n;
+}
+
+/* Tables of an accepted chart: with exact room, with more, and with less, which gets 18. What was written is accepted. */
+static void saved(struct tables t, int line) {
+    static char expected[4096];
+    size_t n = text_of(t, expected, sizeof expected);
+    expect(n == 25 + 33 * (t.v / 4) + 33 * (t.e / 4) + 9 * t.f && n <= ESTIVOLH_CHART_BYTES_MAX, line);
+
+    uint8_t *exact = lent_bytes(n), *one_more = lent_bytes(n + 1), *more = lent_bytes(n + 100), *less = lent_bytes(n - 1);
+    uint64_t *found = lent(1), *longer = lent(3), *none = lent(1);
+    expect(write_back(t, exact, n, found, 1) == 0 && found[0] == n && memcmp(exact, expected, n) == 0, line);
+    expect(estivolh_check(exact, n) == 0, line);
+    expect(write_back(t, one_more, n + 1, longer, 3) == 0 && longer[0] == n && kept(longer, 1, 3), line);
+    expect(memcmp(one_more, expected, n) == 0 && kept_bytes(one_more, n, n + 1), line);
+    expect(write_back(t, more, n + 100, found, 1) == 0 && found[0] == n, line);
+    expect(memcmp(more, expected, n) == 0 && kept_bytes(more, n, n + 100), line);
+    expect(write_back(t, exact, n, found, 1) == 0 && found[0] == n && memcmp(exact, expected, n) == 0, line); /* over itself */
+
+    for (size_t short_by = 1; short_by <= n; short_by = short_by < 26 ? short_by + 1 : 2 * short_by) {
+        expect(write_back(t, less + (short_by - 1), n - short_by, none, 1) == 18 && kept_bytes(less, 0, n - 1) && kept(none, 0, 1), line);
+    }
+    expect(write_back(t, less + (n - 1), 0, none, 1) == 18 && kept(none, 0, 1), line);
+    expect(write_back(t, more, n + 100, none, 0) == 2 && kept_bytes(more, n, n + 100) && kept(none, 0, 1), line);
+    expect(write_back(t, less, n - 1, none, 0) == 2 && kept_bytes(less, 0, n - 1) && kept(none, 0, 1), line);
+    expect(text_of(t, expected, sizeof expected) == n && memcmp(more, expected, n) == 0, line); /* the tables as they were */
+}
+#define SAVED(t) saved((t), __LINE__)
+
+/* Tables that are refused, with this number: whatever room there is, none included, so always before 18; and after 2 for found. */
+static void refused(struct tables t, uint64_t number, int line) {
+    static const size_t rooms[] = {0, 1, 24, 25, 339, 340, 513, 514, 600};
+    uint8_t *text = lent_bytes(600);
+    uint64_t *found = lent(1);
+    for (size_t i = 0; i < sizeof rooms / sizeof *rooms; i++) {
+        uint8_t *part = text + (600 - rooms[i]);
+        expect(write_back(t, part, rooms[i], found, 1) == number && kept_bytes(text, 0, 600) && kept(found, 0, 1), line);
+        expect(write_back(t, part, rooms[i], found, 0) == 2 && kept_bytes(text, 0, 600) && kept(found, 0, 1), line);
+    }
+}
+#define REFUSED(t, number) refused((t), (number), __LINE__)
+
+/* The square with one number changed: the table (v, e or f), the place in its slice, the number, and the refusal. */
+static const struct {
+    char table;
+    size_t at;
+    int64_t number;
+    uint64_t refusal;
+} changes[] = {
+    {'v', 2, -1, 6}, {'v', 2, 1000001, 6}, {'v', 2, INT64_MIN, 6}, {'v', 2, INT64_MAX, 6}, {'v', 3, -1, 6}, {'v', 3, 10, 6},
+    {'v', 3, INT64_MIN, 6}, {'v', 3, INT64_MAX, 6}, {'v', 4, 10001, 6}, {'v', 4, -10001, 6}, {'v', 4, INT64_MIN, 6}, {'v', 4, INT64_MAX, 6},
+    {'v', 5, 10001, 6}, {'v', 5, -10001, 6}, {'v', 5, INT64_MIN, 6}, {'v', 5, INT64_MAX, 6}, {'v', 15, 10, 6}, {'e', 0, -1, 6},
+    {'e', 0, 4, 6}, {'e', 1, -1, 6}, {'e', 1, 10, 6}, {'e', 1, 4294967298, 6}, {'e', 2, -1, 6}, {'e', 2, 10, 6}, {'e', 3, -1, 6},
+    {'e', 3, 3, 6}, {'e', 36, INT64_MIN, 6}, {'e', 37, INT64_MAX, 6}, {'e', 38, INT64_MIN, 6}, {'e', 39, INT64_MAX, 6}, {'f', 0, -1, 6},
+    {'f', 1, INT64_MIN, 6}, {'f', 1, 4294967296, 6}, {'f', 2, 10, 6}, {'f', 2, INT64_MAX, 6},
+    {'v', 3, 1, 7}, {'e', 0, 2, 7}, {'e', 1, 9, 7}, {'e', 39, 2, 7}, {'f', 2, 9, 7},
+    {'v', 4, 0, 8}, {'v', 5, 10, 8}, {'v', 8, 0, 8}, {'v', 9, 0, 8}, {'v', 12, 10, 8},
+    {'v', 4, -10, 9}, {'v', 5, 11, 9}, {'v', 13, -10, 9},
+    {'v', 8, 12, 11}, {'v', 9, 11, 11},
+};
+
+static void put(struct tables t, char table, size_t at, int64_t number) {
+    (table == 'v' ? t.vertices : table == 'e' ? t.half_edges : t.faces)[at] = number;
+}
+
+static void write_chart(void) {
+    /* the file's text, from its numbers */
+    static char text[4096];
+    EXPECT(text_of(triangle(), text, sizeof text) == size && memcmp(text, chart, size) == 0 && size == 340);
+    EXPECT(text_of(square(), text, sizeof text) == square_size && memcmp(text, square_chart, square_size) == 0 && square_size == 514);
+    SAVED(triangle());
+    SAVED(square());
+    uint8_t *room = lent_bytes(ESTIVOLH_CHART_BYTES_MAX);
+    uint64_t *found = lent(1);
+    EXPECT(write_back(triangle(), room, ESTIVOLH_CHART_BYTES_MAX, found, 1) == 0 && found[0] == size && memcmp(room, chart, size) == 0);
+    EXPECT(kept_bytes(room, size, ESTIVOLH_CHART_BYTES_MAX));
+    EXPECT(write_back(square(), room, ESTIVOLH_CHART_BYTES_MAX, found, 1) == 0 && found[0] == square_size);
+    EXPECT(memcmp(room, square_chart, square_size) == 0 && kept_bytes(room, square_size, ESTIVOLH_CHART_BYTES_MAX));
+
+    /* coordinates below 0, and both ends of every range */
+    static const int64_t corners[] = {-10000, -10000, 0, 0, 10000, -9999, 1000000, 2, -1, 10000, 999999, 4};
+    static const int64_t small[] = {-9, -10, 9, 0, 10, -1, 10, 2, 0, 9, 99, 4};
+    static const int64_t left[] = {-100, -99, 1, 5, -10, -99, 12345, 1, -100, -9, 67890, 3};
+    struct tables t = triangle();
+    memcpy(t.vertices, corners, sizeof corners);
+    SAVED(t);
+    memcpy(t.vertices, small, sizeof small);
+    SAVED(t);
+    memcpy(t.vertices, left, sizeof left);
+    SAVED(t);
+
+    /* 2: no multiple of four, one to three numbers too few; the face slice has 3, which is none either */
+    for (size_t off = 1; off <= 3; off++) {
+        REFUSED(last(square(), 16 - off, 40, 3), 2);
+        REFUSED(last(square(), 16, 40 - off, 3), 2);
+        REFUSED(last(square(), 16 - off, 40 - off, 3), 2);
+        REFUSED(last(square(), 4 + off, 40, 3), 2); /* before 4 */
+        REFUSED(last(square(), off, 40, 3), 2);
+        REFUSED(last(square(), 0, off, 0), 2);
+        REFUSED(last(square(), 16, 40 - off, 1), 2);
+        REFUSED(zeros(4 * 129 + off, 24, 2), 2);
+        REFUSED(zeros(12, 4 * 757 + off, 2), 2);
+    }
+    /* 4: each count at both ends, odd half-edges, empty slices; tables of zeros that it lets pass get 7 */
+    REFUSED(last(square(), 0, 0, 0), 4);
+    REFUSED(last(square(), 0, 40, 3), 4);
+    REFUSED(last(square(), 16, 0, 3), 4);
+    REFUSED(last(square(), 16, 40, 0), 4);
+    REFUSED(last(square(), 8, 40, 3), 4);
+    REFUSED(last(square(), 16, 16, 3), 4);
+    REFUSED(last(square(), 16, 36, 3), 4);
+    REFUSED(last(square(), 16, 40, 1), 4);
+    REFUSED(zeros(4 * 128, 4 * 756, 252), 7);
+    REFUSED(zeros(4 * 3, 4 * 6, 2), 7);
+    REFUSED(zeros(4 * 129, 4 * 756, 252), 4);
+    REFUSED(zeros(4 * 128, 4 * 757, 252), 4);
+    REFUSED(zeros(4 * 128, 4 * 758, 252), 4);
+    REFUSED(zeros(4 * 128, 4 * 755, 252), 4);
+    REFUSED(zeros(4 * 128, 4 * 756, 253), 4);
+    REFUSED(zeros(4 * 128, 4 * 756, 256), 4);
+    /* 6 to 11 */
+    for (size_t i = 0; i < sizeof changes / sizeof *changes; i++) {
+        t = square();
+        put(t, changes[i].table, changes[i].at, changes[i].number);
+        int before = failures;
+        REFUSED(t, changes[i].refusal);
+        if (failures != before) {
+            printf("    it is change %zu, counted from 0\n", i);
+        }
+    }
+    t = square();
+    put(t, 'v', 0, 6);
+    put(t, 'v', 1, 6);
+    REFUSED(t, 10);
+
+    /* which of two comes first: 2 before 4 and 6, 4 before 6, 6 before 7, 7 before 8, 8 before 9 */
+    t = square();
+    put(t, 'v', 12, 10001);
+    REFUSED(last(t, 16, 39, 3), 2);
+    REFUSED(last(t, 15, 40, 1), 2);
+    REFUSED(last(t, 16, 36, 3), 4);
+    REFUSED(last(t, 16, 40, 1), 4);
+    REFUSED(last(t, 8, 40, 3), 4);
+    put(t, 'e', 1, 9);
+    REFUSED(t, 6);
+    put(t, 'v', 12, 10);
+    REFUSED(t, 7);
+    put(t, 'e', 1, 2);
+    REFUSED(t, 8);
+}
+
 static void every_call(void) {
     check();
     locate();
@@ -227,19 +450,28 @@ static void every_call(void) {
     charge();
     fresh();
     batch();
+    write_chart();
+}
+
+/* A chart file's bytes, which end at the wall too, and how many there are. */
+static uint8_t *read_chart(const char *path, size_t *bytes) {
+    uint8_t *text = lent_bytes(PAGES * PAGE);
+    FILE *file = path != NULL ? fopen(path, "rb") : NULL;
+    if (text == NULL || file == NULL) {
+        return NULL;
+    }
+    *bytes = fread(text, 1, PAGES * PAGE, file);
+    fclose(file);
+    return memmove(text + PAGES * PAGE - *bytes, text, *bytes);
 }
 
 int main(int argc, char **argv) {
-    uint8_t *text = lent(PAGES * PAGE / 8);
-    FILE *file = argc > 1 ? fopen(argv[1], "rb") : NULL;
-    if (text == NULL || file == NULL) {
+    chart = read_chart(argc > 1 ? argv[1] : NULL, &size);
+    square_chart = read_chart(argc > 2 ? argv[2] : NULL, &square_size);
+    if (chart == NULL || square_chart == NULL) {
         printf("calls: no chart\n");
         return 1;
     }
-    size = fread(text, 1, PAGES * PAGE, file);
-    fclose(file);
-    chart = text + PAGES * PAGE - size; /* the chart too ends at the wall */
-    memmove(chart, text, size);
 
     for (size_t i = 0; i < sizeof guards / sizeof *guards; i++) {
         guard = guards[i];

@@ -6,8 +6,8 @@
 #include "estivolh.h"
 
 #define SECTIONS 2
-#define BATCH 2                  /* entries of a batch */
-#define CHART_MAX (31465 + 1)    /* the largest chart, and one byte more: a longer file is refused by its length */
+#define BATCH 2 /* entries of a batch */
+#define CHART_MAX (ESTIVOLH_CHART_BYTES_MAX + 1) /* one byte more than the largest chart: a longer file is refused by its length */
 
 /* The entries of examples/triangle-a/log.txt. The splice is not the last entry of its batch. */
 static const int64_t batches[2][BATCH * ESTIVOLH_ENTRY_NUMBERS] = {
