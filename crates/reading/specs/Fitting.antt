@@ -12,10 +12,10 @@ use Rattle.whole.specs.Bound.{Within, up-to}
 use Rattle.text.specs.Field.{fieldWidth}
 use Rattle.text.specs.Written.{Fits}
 use Rattle.tables.specs.Written.{AllFit, all-fit}
-use Rattle.geometry.specs.Plane.{Grid, on-grid}
+use Rattle.geometry.specs.Plane.{on-grid}
 use Rattle.chart.specs.Limits.{MostVertices, MostHalfEdges, MostFaces}
 use Rattle.chart.specs.Tables.{rows, placeOf, valueOf}
-use Rattle.ranges.specs.Ranges.{notBelow, cell, ValueMax, outOfRange}
+use Rattle.ranges.specs.Ranges.{cell, ValueMax, outOfRange}
 use Rattle.ranges.specs.Passed.{Counted, below-in, vertex, edge, face}
 
 -- a number whose bound has one digit fewer than a field has columns fits it, with its sign: `within-fits h tt` at a bound that is a numeral

@@ -1,6 +1,6 @@
 -- 02, CR 1: a file that none of 3, 4 and 5 meets is the chart text of its own tables (`file-is-text`), and the chart text of tables whose numbers fit
 -- their fields is a file of these tables (`text-is-file`). Assumes nothing.
-use Prim.Native.Nat.{ℕ, _+_, _*_, _/_, _≤_, _<_, _^_}
+use Prim.Native.Nat.{ℕ, _+_, _*_, _≤_}
 use mathlib.Core.List.{List, [], _∷_, _++_, append-nil}
 use mathlib.Core.Bool.{Bool, true, false, cond}
 use mathlib.Core.Path.{_≡_, refl, ap, sym, _∙_}

@@ -1,8 +1,8 @@
 -- What callers need of the definitions of Writing. Assumes nothing.
 use mathlib.Core.Bool.{Bool, true, false, not, cond}
 use mathlib.Core.List.{List, _++_}
-use mathlib.Core.Path.{_≡_, refl, sym, ap, _∙_}
-use Prim.Native.Nat.{ℕ, zero, suc, _*_, _/_, _%_, _≤_, _<_}
+use mathlib.Core.Path.{_≡_, refl}
+use Prim.Native.Nat.{ℕ, zero, suc, _*_, _/_, _%_, _≤_}
 use native.Mathlib.Omega.{arith}
 use lib.Dec.{ltb, eqb}
 use lib.IntN.{ℤ, pos}
@@ -12,12 +12,10 @@ use Rattle.whole.specs.Bools.{or-false}
 use Rattle.chart.specs.Tables.{rows}
 use Rattle.ranges.specs.Ranges.{countsRefused, outOfRange}
 use Rattle.ranges.specs.Passed.{Counted, counted}
-use Rattle.checks.specs.Checks.{tablesRefusal, chartRefusal}
+use Rattle.checks.specs.Checks.{tablesRefusal}
 use Rattle.reading.specs.Laws.{never}
-use Rattle.reading.specs.Reading.{fileLength}
 use Rattle.reading.specs.Text.{chartText}
-use Rattle.reading.specs.Written.{text-length}
-use Rattle.writing.specs.Writing.{Written, Saved, uneven, numbersRefusal, roomRefusal, writeRefusal, savedBy, writeOf}
+use Rattle.writing.specs.Writing.{uneven, numbersRefusal, roomRefusal, writeRefusal, savedBy, writeOf}
 use Rattle.writing.specs.Writing.Written.{wrote, turnedDown}
 
 -- ---- tables that none of 2, 4 and 6 to 11 meets

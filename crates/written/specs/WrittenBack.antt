@@ -1,8 +1,8 @@
 -- 02, CR 1: "The bytes equal the file that was read, for every accepted file, and reading what it wrote yields the same tables." Assumes nothing.
 use mathlib.Core.List.{List, _++_}
 use mathlib.Core.Path.{_≡_, refl, sym, ap, subst, _∙_}
-use Prim.Native.Nat.{ℕ, _+_, _*_, _≤_}
-use native.Mathlib.Nat.{le-trans, le-of-eq, add-le-add, mul-le-mul, le-refl}
+use Prim.Native.Nat.{ℕ, _≤_}
+use native.Mathlib.Nat.{le-trans, le-of-eq}
 use native.Mathlib.Omega.{arith}
 use lib.IntN.{ℤ}
 use lib.ListN.{length, take, drop}
@@ -10,18 +10,17 @@ use lib.Seq.{take-at}
 use Rattle.chart.specs.Limits.{MostVertices, MostHalfEdges, MostFaces}
 use Rattle.chart.specs.Tables.{rows, unsignedAll}
 use Rattle.ranges.specs.Passed.{Counted, counts-pass}
-use Rattle.checks.specs.Checks.{Loaded, tablesRefusal, told}
-use Rattle.checks.specs.Checks.Loaded.{loaded, refused}
+use Rattle.checks.specs.Checks.{tablesRefusal}
+use Rattle.checks.specs.Checks.Loaded.{loaded}
 use Rattle.reading.specs.declared.Head.{Head}
 use Rattle.reading.specs.declared.Head.the-variants.{Refused, Counts}
-use Rattle.reading.specs.Reading.{headOf, fileLength, Body, bodyOf, loadBody, loadOf, refusalOf, chartRefusalOf}
+use Rattle.reading.specs.Reading.{headOf, fileLength, Body, bodyOf, loadBody, loadOf, chartIn, refusalOf, chartRefusalOf}
 use Rattle.reading.specs.Reading.Body.{body, malformed}
 use Rattle.reading.specs.Laws.{told-refusal, told-zero, head-refusal, load-refusal}
 use Rattle.reading.specs.Text.{chartText, numbersAfter, numbersIn}
 use Rattle.reading.specs.Written.{text-length, file-is-text, text-is-file, chart-numbers}
 use Rattle.reading.specs.Fitting.{tables-fit}
-use Rattle.reading.specs.Reading.{chartIn}
-use Rattle.writing.specs.Writing.{Saved, numbersRefusal, writeOf}
+use Rattle.writing.specs.Writing.{numbersRefusal, writeOf}
 use Rattle.writing.specs.Writing.Written.{wrote, turnedDown}
 use Rattle.writing.specs.Laws.{uneven-none, counts-in, tables-none, range-none, vertex-rows, edge-rows, even-rows, numbers-pass, wrote-done, written-room, refused-nothing}
 
