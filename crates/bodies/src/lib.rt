@@ -18,33 +18,14 @@ ghost use Rattle.query.specs.Value.{valueIn};
 ghost use Rattle.query.specs.Location.{positionSays, locateIn};
 ghost use Rattle.query.specs.Weights.{barycentricIn};
 
-// Room for the tables of the largest chart.
-pub fn vertex_room() -> [i64; 512]
-    ensures { λ r. ⌜ length r ≡ 512 ⌝ }
-{
-    [0i64; 512]
-}
-
-pub fn edge_room() -> [usize; 3024]
-    ensures { λ r. ⌜ length r ≡ 3024 ⌝ }
-{
-    [0usize; 3024]
-}
-
-pub fn face_room() -> [usize; 252]
-    ensures { λ r. ⌜ length r ≡ 252 ⌝ }
-{
-    [0usize; 252]
-}
-
 // What meets the body of a chart whose head has these counts.
 pub fn body_refusal(chart: &[u8], v: usize, e: usize, f: usize) -> u64
     requires { ⌜ Counted v e f ⌝ }
     ensures { λ r. ⌜ r ≡ refusalOf (loadOf v e f (now (chart .entry))) ⌝ }
 {
-    let mut vertices = vertex_room();
-    let mut edges = edge_room();
-    let mut faces = face_room();
+    let mut vertices = chart::vertex_room();
+    let mut edges = chart::edge_room();
+    let mut faces = chart::face_room();
     reading::load(chart, v, e, f, &mut vertices, &mut edges, &mut faces)
 }
 
@@ -53,9 +34,9 @@ pub fn locate_in(chart: &[u8], v: usize, e: usize, f: usize, q: Place) -> Positi
     requires { ⌜ Counted v e f ⌝ }
     ensures { λ r. ⌜ positionSays r ≡ locateIn (loadOf v e f (now (chart .entry))) q ⌝ }
 {
-    let mut vertices = vertex_room();
-    let mut edges = edge_room();
-    let mut faces = face_room();
+    let mut vertices = chart::vertex_room();
+    let mut edges = chart::edge_room();
+    let mut faces = chart::face_room();
     let refusal = reading::load(chart, v, e, f, &mut vertices, &mut edges, &mut faces);
     if refusal != 0 {
         return PositionInTriangulation::Refused(refusal);
@@ -70,9 +51,9 @@ pub fn weights_in(chart: &[u8], v: usize, e: usize, f: usize, q: Place) -> Baryc
     requires { ⌜ Counted v e f ⌝ }
     ensures { λ r. ⌜ weightsSay r ≡ barycentricIn (loadOf v e f (now (chart .entry))) q ⌝ }
 {
-    let mut vertices = vertex_room();
-    let mut edges = edge_room();
-    let mut faces = face_room();
+    let mut vertices = chart::vertex_room();
+    let mut edges = chart::edge_room();
+    let mut faces = chart::face_room();
     let refusal = reading::load(chart, v, e, f, &mut vertices, &mut edges, &mut faces);
     if refusal != 0 {
         return BarycentricWeights::Refused(refusal);
@@ -87,9 +68,9 @@ pub fn gradient_in(chart: &[u8], v: usize, e: usize, f: usize, vertex: usize) ->
     requires { ⌜ Counted v e f ⌝ }
     ensures { λ r. ⌜ gradientSays r ≡ gradientIn (loadOf v e f (now (chart .entry))) vertex ⌝ }
 {
-    let mut vertices = vertex_room();
-    let mut edges = edge_room();
-    let mut faces = face_room();
+    let mut vertices = chart::vertex_room();
+    let mut edges = chart::edge_room();
+    let mut faces = chart::face_room();
     let refusal = reading::load(chart, v, e, f, &mut vertices, &mut edges, &mut faces);
     if refusal != 0 {
         return EstimatedGradient::Refused(refusal);
@@ -111,9 +92,9 @@ pub fn edges_in(
     requires { ⌜ Counted v e f ⌝ ∗ ⌜ e ≤ length (now out) ⌝ }
     ensures { λ r. ⌜ edgesLeft r (now (out .exit)) ≡ edgesIn (loadOf v e f (now (chart .entry))) q (now (out .entry)) ⌝ }
 {
-    let mut vertices = vertex_room();
-    let mut edges = edge_room();
-    let mut faces = face_room();
+    let mut vertices = chart::vertex_room();
+    let mut edges = chart::edge_room();
+    let mut faces = chart::face_room();
     let refusal = reading::load(chart, v, e, f, &mut vertices, &mut edges, &mut faces);
     if refusal != 0 {
         return NaturalNeighbors::Refused(refusal);
@@ -136,9 +117,9 @@ pub fn shares_in(
     requires { ⌜ Counted v e f ⌝ ∗ ⌜ e ≤ length (now owners) ⌝ ∗ ⌜ e ≤ length (now weights) ⌝ }
     ensures { λ r. ⌜ sharesLeft r (now (owners .exit)) (now (weights .exit)) ≡ sharesIn (loadOf v e f (now (chart .entry))) q (now (owners .entry)) (now (weights .entry)) ⌝ }
 {
-    let mut vertices = vertex_room();
-    let mut edges = edge_room();
-    let mut faces = face_room();
+    let mut vertices = chart::vertex_room();
+    let mut edges = chart::edge_room();
+    let mut faces = chart::face_room();
     let refusal = reading::load(chart, v, e, f, &mut vertices, &mut edges, &mut faces);
     if refusal != 0 {
         return NaturalNeighbors::Refused(refusal);
@@ -160,9 +141,9 @@ pub fn value_in(
     requires { ⌜ Counted v e f ⌝ }
     ensures { λ r. ⌜ valueSays r ≡ valueIn (loadOf v e f (now (chart .entry))) method q ⌝ }
 {
-    let mut vertices = vertex_room();
-    let mut edges = edge_room();
-    let mut faces = face_room();
+    let mut vertices = chart::vertex_room();
+    let mut edges = chart::edge_room();
+    let mut faces = chart::face_room();
     let refusal = reading::load(chart, v, e, f, &mut vertices, &mut edges, &mut faces);
     if refusal != 0 {
         return InterpolatedValue::Refused(refusal);

@@ -8,6 +8,25 @@ ghost use Rattle.geometry.specs.Plane.{OnGrid};
 ghost use Rattle.chart.specs.Tables.{unsigned, rows, placeOf, valueOf, outOf, originOf, nextOf, prevOf, faceOf, adjacentOf};
 ghost use Rattle.chart.specs.Chart.{chartOf, partner, InRange};
 
+// Room for the tables of the largest chart.
+pub fn vertex_room() -> [i64; 512]
+    ensures { λ r. ⌜ length r ≡ 512 ⌝ }
+{
+    [0i64; 512]
+}
+
+pub fn edge_room() -> [usize; 3024]
+    ensures { λ r. ⌜ length r ≡ 3024 ⌝ }
+{
+    [0usize; 3024]
+}
+
+pub fn face_room() -> [usize; 252]
+    ensures { λ r. ⌜ length r ≡ 252 ⌝ }
+{
+    [0usize; 252]
+}
+
 // A number that row 6 has let pass, taken over as an unsigned one.
 pub fn to_unsigned(z: i64) -> usize
     ensures { λ r. ⌜ r ≡ unsigned z ⌝ }

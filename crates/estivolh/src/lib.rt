@@ -168,9 +168,9 @@ fn batch_in(
     requires { ⌜ Counted v e f ⌝ ∗ ⌜ ValidBook book ⌝ ∗ ⌜ length (now entries) / EntryWidth ≤ length (now answers) ⌝ }
     ensures { λ r. ⌜ outcome r (now (answers .exit)) ≡ batchIn (loadOf v e f (now (chart .entry))) book (now (entries .entry)) (now (answers .entry)) ⌝ }
 {
-    let mut vertices = bodies::vertex_room();
-    let mut edges = bodies::edge_room();
-    let mut faces = bodies::face_room();
+    let mut vertices = chart::vertex_room();
+    let mut edges = chart::edge_room();
+    let mut faces = chart::face_room();
     let refusal = reading::load(chart, v, e, f, &mut vertices, &mut edges, &mut faces);
     if refusal != 0 {
         return Returned { refusal, book };

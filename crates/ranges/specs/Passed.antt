@@ -4,12 +4,13 @@ use mathlib.Core.Bool.{false, not, false≢true}
 use mathlib.Core.List.{List}
 use Prim.Native.Nat.{ℕ, _+_, _*_, _/_, _%_, _≤_, _<_}
 use native.Mathlib.Nat.{add-zero}
+use native.Mathlib.Omega.{arith}
 use lib.Dec.{eqb, ltb}
 use lib.IntN.{ℤ, pos, negsuc}
 use lib.ListN.{length, getD, length-map, List·getD-map}
 use borrow.Author.Tests.{ltb-true, ltb-false, eqb-true, not-false, le-ltb, eq-eqb}
 use Rattle.whole.specs.Bools.{or-false}
-use Rattle.whole.specs.Bound.{outside}
+use Rattle.whole.specs.Bound.{Within, outside}
 use Rattle.whole.specs.First.{some, none-at}
 use Rattle.geometry.specs.Plane.{offGrid, on-grid}
 use Rattle.chart.specs.Limits.{LeastVertices, MostVertices, LeastHalfEdges, MostHalfEdges, LeastFaces, MostFaces}
@@ -86,6 +87,12 @@ pub below : (n : ℕ) (z : ℤ) → notBelow n z ≡ false → unsigned z < n
 unfolding notBelow
 below n (pos m) e = ltb-true m n (not-false (ltb m n) (or-false (ltb m 0) (not (ltb m n)) e .1))
 below n (negsuc m) e = absurd (false≢true (sym e))
+
+-- and it is within a bound of the count
+pub below-in : (n m : ℕ) (z : ℤ) → notBelow n z ≡ false → n ≤ m → Within m z
+unfolding notBelow
+below-in n m (pos k) e h = let l = below n (pos k) e in record { abs = omega arith }
+below-in n m (negsuc k) e h = absurd (false≢true (sym e))
 
 -- a number of a table taken over, below a count of one
 taken : (t : List ℤ) (k n m : ℕ) → n ≡ m → notBelow n (getD t k (pos 0)) ≡ false → getD (unsignedAll t) k 0 < m

@@ -27,6 +27,22 @@ pub fn counts_refused(vertices: i64, edges: i64, faces: i64) -> bool
     whole::is_outside(2, 252, faces)
 }
 
+// 4 on the counts that the lengths of slices give: one past its most is told first, so that the others are numbers of 64 bits with a sign.
+pub fn lengths_refused(vertices: usize, edges: usize, faces: usize) -> bool
+    ensures { λ r. ⌜ r ≡ countsRefused (pos vertices) (pos edges) (pos faces) ⌝ }
+{
+    if 128 < vertices {
+        return true;
+    }
+    if 756 < edges {
+        return true;
+    }
+    if 252 < faces {
+        return true;
+    }
+    counts_refused(vertices as i64, edges as i64, faces as i64)
+}
+
 // Whether a number is negative or not below the count n.
 pub fn is_not_below(n: usize, z: i64) -> bool
     ensures { λ r. ⌜ r ≡ notBelow n z ⌝ }

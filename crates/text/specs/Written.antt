@@ -3,17 +3,16 @@
 use Prim.Native.Nat.{ℕ, zero, suc, _+_, _-_, _*_, _/_, _%_, _^_, _≤_, _<_}
 use mathlib.Core.List.{List, [], _∷_, _++_, append-assoc}
 use mathlib.Core.Bool.{Bool, true, false, cond}
-use mathlib.Core.Path.{_≡_, refl, ap, sym, _∙_}
+use mathlib.Core.Path.{_≡_, refl, ap, _∙_}
 use native.Mathlib.Omega.{arith}
 use native.Mathlib.Decide.{ℕ-discrete}
 use native.Mathlib.Nat.{pow-succ'}
-use lib.ListN.{length, drop, getD, length-append}
+use lib.ListN.{length, getD, length-append}
 use lib.IntN.{ℤ, pos, negsuc}
 use lib.Dec.{eqb}
 use borrow.Author.Tests.{eq-eqb, ne-eqb}
 use Rattle.text.specs.Field.{spacesOf, digitsOf, valueOf, columns, columns-length, lastDigit, fieldOf, fieldText, candidate}
 use Rattle.text.specs.Bytes.{eqs, eqs-true, eqs-refl}
-use Rattle.text.specs.declared.Field.{Field}
 use Rattle.text.specs.declared.Field.the-variants.{Number, Malformed}
 
 -- ---- read, then written

@@ -1,23 +1,21 @@
 -- What callers need of the definitions of Writing. Assumes nothing.
 use mathlib.Core.Bool.{Bool, true, false, not, cond}
 use mathlib.Core.List.{List, _++_}
-use mathlib.Core.Path.{_≡_, refl, sym, ap, _∙_}
-use Prim.Native.Nat.{ℕ, zero, suc, _*_, _/_, _%_, _≤_, _<_}
+use mathlib.Core.Path.{_≡_, refl}
+use Prim.Native.Nat.{ℕ, zero, suc, _*_, _/_, _%_, _≤_}
 use native.Mathlib.Omega.{arith}
 use lib.Dec.{ltb, eqb}
 use lib.IntN.{ℤ, pos}
 use lib.ListN.{length, drop}
-use borrow.Author.Tests.{ltb-false, eqb-true, not-false, le-ltb}
+use borrow.Author.Tests.{ltb-false, eqb-true, not-false, le-ltb, eq-eqb}
 use Rattle.whole.specs.Bools.{or-false}
 use Rattle.chart.specs.Tables.{rows}
 use Rattle.ranges.specs.Ranges.{countsRefused, outOfRange}
 use Rattle.ranges.specs.Passed.{Counted, counted}
-use Rattle.checks.specs.Checks.{tablesRefusal, chartRefusal}
+use Rattle.checks.specs.Checks.{tablesRefusal}
 use Rattle.reading.specs.Laws.{never}
-use Rattle.reading.specs.Reading.{fileLength}
 use Rattle.reading.specs.Text.{chartText}
-use Rattle.reading.specs.Written.{text-length}
-use Rattle.writing.specs.Writing.{Written, Saved, uneven, numbersRefusal, roomRefusal, writeRefusal, savedBy, writeOf}
+use Rattle.writing.specs.Writing.{uneven, numbersRefusal, roomRefusal, writeRefusal, savedBy, writeOf}
 use Rattle.writing.specs.Writing.Written.{wrote, turnedDown}
 
 -- ---- tables that none of 2, 4 and 6 to 11 meets
@@ -70,3 +68,54 @@ module _ (vs es : List ℤ) (h : uneven vs es ≡ false) where
   -- and so are the half-edges
   pub edge-rows : length es ≡ 4 * rows es
   edge-rows = whole-rows (length es) (eqb-true (length es % 4) 0 (not-false (eqb (length es % 4) 0) (parts .1)))
+
+-- 2 does not meet tables of whole rows
+pub even-rows : (vs es : List ℤ) → length vs ≡ 4 * rows vs → length es ≡ 4 * rows es → uneven vs es ≡ false
+even-rows vs es a b =
+    let x : length vs % 4 ≡ 0 = omega arith in
+    let y : length es % 4 ≡ 0 = omega arith in
+    rw (eq-eqb (length vs % 4) 0 x, eq-eqb (length es % 4) 0 y)
+
+-- tables that none of 2, 4 and 6 to 11 meets, from each of these
+pub numbers-pass : (vs es fs : List ℤ) → uneven vs es ≡ false → countsRefused (pos (rows vs)) (pos (rows es)) (pos (length fs)) ≡ false → tablesRefusal vs es fs ≡ 0 → numbersRefusal vs es fs ≡ 0
+unfolding numbersRefusal
+numbers-pass vs es fs a b c = rw (a, b, c)
+
+-- ---- the call
+-- what a call that was not refused had been lent, and what it left
+pub record Done (vs es fs : List ℤ) (lent : List ℕ) (n : ℕ) : Type 0 where
+  pub none : numbersRefusal vs es fs ≡ 0
+  pub room : length (chartText vs es fs) ≤ length lent
+  pub long : length (chartText vs es fs) ≡ n
+  pub left : writeOf vs es fs lent .buffer ≡ chartText vs es fs ++ drop (length (chartText vs es fs)) lent
+
+-- 18 meets no call with room
+room-by : (r : ℕ) (text lent : List ℕ) → roomRefusal r text lent ≡ 0 → (r ≡ 0) × (length text ≤ length lent)
+room-by zero text lent e = (refl, ltb-false (length lent) (length text) (past (ltb (length lent) (length text)) 17 0 e .0))
+room-by (suc r) text lent e = let o : ⊥ = omega arith in absurd o
+
+saved-by : (r : ℕ) (text lent : List ℕ) (n : ℕ) → savedBy r text lent .answer ≡ wrote n → (r ≡ 0) × ((length text ≡ n) × (savedBy r text lent .buffer ≡ text ++ drop (length text) lent))
+saved-by zero text lent n e = (refl, (cc, refl))
+saved-by (suc r) text lent n e = never (cc)
+
+-- a call that answered with a length
+pub wrote-done : (vs es fs : List ℤ) (lent : List ℕ) (n : ℕ) → writeOf vs es fs lent .answer ≡ wrote n → Done vs es fs lent n
+unfolding writeOf writeRefusal
+wrote-done vs es fs lent n e =
+    let s = saved-by (writeRefusal vs es fs lent) (chartText vs es fs) lent n e in
+    let r = room-by (numbersRefusal vs es fs) (chartText vs es fs) lent (s .0) in
+    record { none = r .0; room = r .1; long = s .1 .0; left = s .1 .1 }
+
+-- tables that nothing meets, and room for them
+pub written-room : (vs es fs : List ℤ) (lent : List ℕ) → numbersRefusal vs es fs ≡ 0 → length (chartText vs es fs) ≤ length lent → writeOf vs es fs lent ≡ record { answer = wrote (length (chartText vs es fs)); buffer = chartText vs es fs ++ drop (length (chartText vs es fs)) lent }
+unfolding writeOf writeRefusal
+written-room vs es fs lent h l = rw (h, le-ltb (length lent) (length (chartText vs es fs)) l)
+
+-- a refused call changes no byte
+pub refused-nothing : (vs es fs : List ℤ) (lent : List ℕ) (n : ℕ) → writeOf vs es fs lent .answer ≡ turnedDown n → writeOf vs es fs lent .buffer ≡ lent
+unfolding writeOf
+refused-nothing vs es fs lent n e = by-refusal (writeRefusal vs es fs lent) (chartText vs es fs) e
+  where
+    by-refusal : (r : ℕ) (text : List ℕ) → savedBy r text lent .answer ≡ turnedDown n → savedBy r text lent .buffer ≡ lent
+    by-refusal zero text e = never (cc)
+    by-refusal (suc r) text e = refl

@@ -1,0 +1,1 @@
+// Theorems about a chart that is written back: everything is in specs/.
