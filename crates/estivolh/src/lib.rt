@@ -1,4 +1,4 @@
-// The public calls of Estivolh. Each takes a chart's bytes and checks them; none asks anything of its caller.
+// The public calls of Estivolh. Each that needs a chart takes its bytes, or to write it back its tables, and checks them; none asks anything of its caller.
 use book::Book;
 use book::Returned;
 use charge::Charged;
@@ -10,6 +10,7 @@ pub use query::PositionInTriangulation;
 use reading::Head;
 use values::InterpolatedValue;
 use weights::BarycentricWeights;
+pub use writing::WrittenChart;
 ghost use mathlib.Core.Path.{_≡_};
 ghost use Prim.Native.Nat.{_≤_, _/_};
 ghost use lib.ListN.{length};
@@ -27,6 +28,7 @@ ghost use Rattle.estivolh.specs.Account.{queries, batchIn};
 ghost use Rattle.query.specs.Location.{positionSays, locateOf};
 ghost use Rattle.weights.specs.Barycentric.{weightsSay};
 ghost use Rattle.query.specs.Weights.{barycentricOf};
+ghost use Rattle.writing.specs.Writing.{savedLeft, writeOf};
 
 // Whether any bytes are an accepted chart (0), or which of the refusals 3 to 11 meets them first.
 pub fn check(chart: &[u8]) -> u64
@@ -206,4 +208,11 @@ pub fn batch(book: Book, chart: &[u8], entries: &[i64], answers: &mut [u64]) -> 
         Head::Refused(n) => Returned { refusal: n, book },
         Head::Counts(v, e, f) => batch_in(chart, v, e, f, book, entries, answers),
     }
+}
+
+// A chart's tables, as numbers in file order, written as chart text into a lent buffer.
+pub fn write_chart(vertices: &[i64], edges: &[i64], faces: &[i64], text: &mut [u8]) -> WrittenChart
+    ensures { λ r. ⌜ savedLeft r (now (text .exit)) ≡ writeOf (now (vertices .entry)) (now (edges .entry)) (now (faces .entry)) (now (text .entry)) ⌝ }
+{
+    writing::write_chart(vertices, edges, faces, text)
 }

@@ -2,12 +2,12 @@
 use mathlib.Core.Bool.{Bool, true, false, not, cond}
 use mathlib.Core.List.{List, _++_}
 use mathlib.Core.Path.{_≡_, refl}
-use Prim.Native.Nat.{ℕ, zero, suc, _*_, _/_, _%_, _≤_}
+use Prim.Native.Nat.{ℕ, zero, suc, _*_, _/_, _%_, _≤_, _<_}
 use native.Mathlib.Omega.{arith}
 use lib.Dec.{ltb, eqb}
 use lib.IntN.{ℤ, pos}
 use lib.ListN.{length, drop}
-use borrow.Author.Tests.{ltb-false, eqb-true, not-false, le-ltb, eq-eqb}
+use borrow.Author.Tests.{lt-ltb, ltb-false, eqb-true, not-false, le-ltb, eq-eqb}
 use Rattle.whole.specs.Bools.{or-false}
 use Rattle.chart.specs.Tables.{rows}
 use Rattle.ranges.specs.Ranges.{countsRefused, outOfRange}
@@ -110,6 +110,20 @@ wrote-done vs es fs lent n e =
 pub written-room : (vs es fs : List ℤ) (lent : List ℕ) → numbersRefusal vs es fs ≡ 0 → length (chartText vs es fs) ≤ length lent → writeOf vs es fs lent ≡ record { answer = wrote (length (chartText vs es fs)); buffer = chartText vs es fs ++ drop (length (chartText vs es fs)) lent }
 unfolding writeOf writeRefusal
 written-room vs es fs lent h l = rw (h, le-ltb (length lent) (length (chartText vs es fs)) l)
+
+-- no room for them
+pub written-short : (vs es fs : List ℤ) (lent : List ℕ) → numbersRefusal vs es fs ≡ 0 → length lent < length (chartText vs es fs) → writeOf vs es fs lent ≡ record { answer = turnedDown 18; buffer = lent }
+unfolding writeOf writeRefusal
+written-short vs es fs lent h l = rw (h, lt-ltb (length lent) (length (chartText vs es fs)) l)
+
+refused-by : (r : ℕ) (text lent : List ℕ) → (r ≡ 0 → ⊥) → savedBy (roomRefusal r text lent) text lent ≡ record { answer = turnedDown r; buffer = lent }
+refused-by zero text lent n = absurd (n refl)
+refused-by (suc r) text lent n = refl
+
+-- tables that something meets
+pub written-refused : (vs es fs : List ℤ) (lent : List ℕ) → (numbersRefusal vs es fs ≡ 0 → ⊥) → writeOf vs es fs lent ≡ record { answer = turnedDown (numbersRefusal vs es fs); buffer = lent }
+unfolding writeOf writeRefusal
+written-refused vs es fs lent n = refused-by (numbersRefusal vs es fs) (chartText vs es fs) lent n
 
 -- a refused call changes no byte
 pub refused-nothing : (vs es fs : List ℤ) (lent : List ℕ) (n : ℕ) → writeOf vs es fs lent .answer ≡ turnedDown n → writeOf vs es fs lent .buffer ≡ lent

@@ -1,43 +1,41 @@
+-- `writing::tables_refusal` meets its contract: the check's own answer, whatever it leaves in the rooms.
+use mathlib.Core.Path.{sym}
+use lib.Seq.{length-take-le}
+use Rattle.checks.specs.Checks.{tablesRefusal}
+use Rattle.writing.proofs.Laws.{told-same}
 use borrow.Author.Needs.{needs}
 use Rattle.writing.proofs.tables_refusal.Statement.{statement}
 use Rattle.writing.proofs.tables_refusal.Tie as tie
-use Rattle.writing.proofs.tables_refusal.Reads as reads
-use Rattle.writing.proofs.tables_refusal.Lts as lts
-use Rattle.chart.proofs.edge_room.Reads as edge-room-reads
-use Rattle.chart.proofs.face_room.Reads as face-room-reads
-use Rattle.checks.proofs.tables_refusal.Reads as tables-refusal-reads
 
--- src/lib.rt:28:24
 edge-room-requires : tie.Need-edge-room-requires
 edge-room-requires c κs = search needs
 
--- src/lib.rt:29:24
 face-room-requires : tie.Need-face-room-requires
 face-room-requires c κs = search needs
 
--- src/lib.rt:32:52
 array-borrow-prefix-edgeroom : tie.Need-array-borrow-prefix-edgeroom
 array-borrow-prefix-edgeroom c = search needs
 
--- src/lib.rt:32:52
 slice-aggregate-tables-refusal : tie.Need-slice-aggregate-tables-refusal
-slice-aggregate-tables-refusal c = ?
+slice-aggregate-tables-refusal c = sym (length-take-le _ _ (search needs))
 
--- src/lib.rt:32:72
 array-borrow-prefix-faceroom : tie.Need-array-borrow-prefix-faceroom
 array-borrow-prefix-faceroom c = search needs
 
--- src/lib.rt:32:72
 slice-aggregate-tables-refusal-2 : tie.Need-slice-aggregate-tables-refusal-2
-slice-aggregate-tables-refusal-2 c = ?
+slice-aggregate-tables-refusal-2 c = sym (length-take-le _ _ (search needs))
 
--- src/lib.rt:32:5
 tables-refusal-requires : tie.Need-tables-refusal-requires
-tables-refusal-requires c κs = ?
+tables-refusal-requires c κs =
+    let s = c .before .before .before .before in
+    let p = s .pre .0 in
+    (p .v-most, (p .e-even, (length-take-le _ _ (search needs), length-take-le _ _ (search needs))))
 
--- src/lib.rt:24:1
 returns : tie.Need-returns
-returns c = ?
+returns c =
+    let a = c .before .before .before .before .before .before .before .args in
+    let t = c .before .before .tables-refusal in
+    told-same (tablesRefusal (a .vertices .now) (a .edges .now) (a .faces .now)) (t .result) (a .vertices .now) (a .vertices .now) _ _ (t .last .1 .1 .1 .0) (t .last .1 .1 .1 .1 .0) (t .ensures)
 
 pub tables-refusal-spec : {M : Type 1} → statement M
 tables-refusal-spec =
