@@ -2,3 +2,4 @@ pub mod Queries
 pub mod Account
 pub mod Demand
 pub mod Numbers
+pub mod Writing

@@ -6,6 +6,7 @@ ghost use Rattle.reading.specs.Reading.{chartRefusalOf};
 ghost use Rattle.slices.specs.Lent.{left};
 ghost use Rattle.slices.specs.Answers.{weightsLeft};
 ghost use Rattle.estivolh_c.specs.Queries.{locateCalled, barycentricCalled, edgesLeft, edgesCalled, sharesCalled, gradientCalled, interpolateCalled};
+ghost use Rattle.estivolh_c.specs.Writing.{textLeft, writeCalled};
 ghost use Rattle.estivolh_c.specs.Account.{chargeCalled, freshCalled, batchLeft, batchCalled};
 
 // Whether any bytes are an accepted chart (0), or which of the refusals 3 to 11 meets them first.
@@ -155,4 +156,22 @@ pub extern "C" fn estivolh_batch(
     let before = slices::read_book(book);
     let after = estivolh::batch(before, chart, entries, answers);
     slices::put_returned(after, book)
+}
+
+// A chart's tables written as chart text, and the text's length.
+#[no_mangle]
+pub extern "C" fn estivolh_write_chart(
+    vertices: &[i64],
+    edges: &[i64],
+    faces: &[i64],
+    text: &mut [u8],
+    found: &mut [u64],
+) -> u64
+    ensures { λ r. ⌜ textLeft r (now (text .exit)) (now (found .exit)) ≡ writeCalled (now (vertices .entry)) (now (edges .entry)) (now (faces .entry)) (now (text .entry)) (now (found .entry)) ⌝ }
+{
+    if found.len() < 1 {
+        return 2;
+    }
+    let answer = estivolh::write_chart(vertices, edges, faces, text);
+    slices::put_length(answer, found)
 }

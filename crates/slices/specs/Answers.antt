@@ -14,6 +14,7 @@ use Rattle.query.specs.Natural as N
 use Rattle.charge.specs.Charging.{Cost}
 use Rattle.book.specs.declared.Returned.{Returned}
 use Rattle.accounts.specs.Batch.{overlay}
+use Rattle.writing.specs.Writing.{Written}
 use Rattle.slices.specs.Lent.{kept, Left}
 use Rattle.slices.specs.Books.{numbersOf}
 
@@ -65,6 +66,11 @@ valueLeft (Answer.turnedDown n) lent = record { answer = n; slice = lent }
 abbrev pub costLeft : Cost → List ℕ → Left ℕ
 costLeft (Cost.whole n) lent = record { answer = 0; slice = overlay (n ∷ []) lent }
 costLeft (Cost.turnedDown k) lent = record { answer = k; slice = lent }
+
+-- ---- 1 length, of the text that was written
+abbrev pub lengthLeft : Written → List ℕ → Left ℕ
+lengthLeft (Written.wrote n) lent = record { answer = 0; slice = overlay (n ∷ []) lent }
+lengthLeft (Written.turnedDown k) lent = record { answer = k; slice = lent }
 
 -- ---- a book's numbers
 abbrev pub returnedLeft : Returned → List ℕ → Left ℕ

@@ -8,6 +8,7 @@ use query::NaturalNeighbors;
 use query::PositionInTriangulation;
 use values::InterpolatedValue;
 use weights::BarycentricWeights;
+use writing::WrittenChart;
 ghost use mathlib.Core.Path.{_≡_};
 ghost use mathlib.Core.List.{[], _∷_};
 ghost use Prim.Native.Nat.{_+_, _≤_};
@@ -20,10 +21,11 @@ ghost use Rattle.query.specs.Location.{positionSays};
 ghost use Rattle.query.specs.Natural.{neighborsSay};
 ghost use Rattle.values.specs.Value.{valueSays};
 ghost use Rattle.weights.specs.Barycentric.{weightsSay};
+ghost use Rattle.writing.specs.Writing.{writtenSays};
 ghost use Rattle.accounts.specs.Batch.{overlay};
 ghost use Rattle.slices.specs.Lent.{left};
 ghost use Rattle.slices.specs.Books.{BookNumbers, bookAt, numbersOf};
-ghost use Rattle.slices.specs.Answers.{locatedLeft, weightsLeft, barycentricLeft, tallyLeft, slopeLeft, valueLeft, costLeft, returnedLeft};
+ghost use Rattle.slices.specs.Answers.{locatedLeft, weightsLeft, barycentricLeft, tallyLeft, slopeLeft, valueLeft, costLeft, lengthLeft, returnedLeft};
 
 // A book as numbers: sections, 16 wears, 16 bend counts, retired wear.
 const WEAR_AT: usize = 1;
@@ -223,6 +225,18 @@ pub fn put_charge(answer: Charged, out: &mut [u64]) -> u64
     match answer {
         Charged::Whole(n) => put(&[n], 0, out),
         Charged::Refused(n) => return n,
+    }
+    0
+}
+
+// The length of a text.
+pub fn put_length(answer: WrittenChart, out: &mut [u64]) -> u64
+    requires { ⌜ 1 ≤ length (now out) ⌝ }
+    ensures { λ r. ⌜ left r (now (out .exit)) ≡ lengthLeft (writtenSays answer) (now (out .entry)) ⌝ }
+{
+    match answer {
+        WrittenChart::Length(n) => put(&[n], 0, out),
+        WrittenChart::Refused(n) => return n,
     }
     0
 }
