@@ -25,7 +25,7 @@ same-length-2 c = search needs
 
 returns-2 : tie.Need-returns-2
 returns-2 c =
-    let s = c .before .before .before .before .before .before .before .before .before .before .before .before in
+    let s = c .before .before .before .before .before .before .before .before .before .before .before in
     let n = c .before .before .before .before .before .before .write-chart in
     ap (λ (l : Left ℕ). textLeft (l .answer) (n .last .1 .1 .1 .0) (l .slice)) (c .before .before .put-length .ensures)
     ∙ (ap (λ (e : Saved). textTold e (s .args .found .now)) (n .ensures) ∙ enough _ _ _ _ (c .before .before .before .before .before .before .before .before .if1 .left))
