@@ -66,7 +66,7 @@ facesQ = pos 1 ∷ pos 0 ∷ pos 8 ∷ []
 
 pub record Rows : Type 0 where
   -- the text of a number in a field: "right-justified after spaces", "a minus sign stands next to the first digit"
-  pub zero : fieldText 8 (pos 0) ≡ spaces 7 (figures (0 ∷ []))
+  pub nought : fieldText 8 (pos 0) ≡ spaces 7 (figures (0 ∷ []))
   pub value-most : fieldText 8 (pos 1000000) ≡ spaces 1 (figures (1 ∷ 0 ∷ 0 ∷ 0 ∷ 0 ∷ 0 ∷ 0 ∷ []))
   pub minus-one : fieldText 8 (negsuc 0) ≡ spaces 6 (45 ∷ figures (1 ∷ []))
   pub x-least : fieldText 8 (negsuc 9999) ≡ spaces 2 (45 ∷ figures (1 ∷ 0 ∷ 0 ∷ 0 ∷ 0 ∷ []))
@@ -90,11 +90,11 @@ pub record Rows : Type 0 where
   -- "18 when the buffer is shorter than the text ..; nothing is written"
   pub short : writeOf verticesA edgesN facesN (sevens 339) ≡ saved (turnedDown 18) (sevens 339)
   pub no-room : writeOf verticesA edgesN facesN [] ≡ saved (turnedDown 18) []
-  -- coordinates below 0, each in its field
+  -- coordinates below 0: x -10,000 and y -1
   pub below-nought : writeOf (set (set verticesA 0 (negsuc 9999)) 1 (negsuc 0)) edgesN facesN (sevens 340) ≡ saved (wrote 340) (put (put fileA (byte 0 2) (45 ∷ figures (1 ∷ 0 ∷ 0 ∷ 0 ∷ 0 ∷ []))) (byte 0 14) (45 ∷ figures (1 ∷ [])))
   -- 3 faces, no multiple of four, are no reason for 2
   pub three-faces : writeOf verticesQ edgesQ facesQ (sevens 514) ≡ saved (wrote 514) square
-  -- "2, when the vertex or half-edge slice is no multiple of four": 13, 11 and 23 numbers, and 25; of each slice alone
+  -- "2, when the vertex or half-edge slice is no multiple of four": 13 and 11 numbers of vertices, 23 and 25 of half-edges
   pub vertices-more : writeOf (verticesA ++ (pos 0 ∷ [])) edgesN facesN (sevens 340) ≡ saved (turnedDown 2) (sevens 340)
   pub vertices-fewer : writeOf (take 11 verticesA) edgesN facesN (sevens 340) ≡ saved (turnedDown 2) (sevens 340)
   pub edges-fewer : writeOf verticesA (take 23 edgesN) facesN (sevens 340) ≡ saved (turnedDown 2) (sevens 340)
@@ -103,16 +103,16 @@ pub record Rows : Type 0 where
   pub no-vertices : writeOf [] edgesN facesN (sevens 340) ≡ saved (turnedDown 4) (sevens 340)
   pub no-edges : writeOf verticesA [] facesN (sevens 340) ≡ saved (turnedDown 4) (sevens 340)
   pub nothing : writeOf [] [] [] [] ≡ saved (turnedDown 4) []
-  -- 4: "vertices not 3 to 128": of 128, as of 3, it is the links that are broken
+  -- 4: "vertices not 3 to 128": of 128 it is the links that are broken
   pub two-vertices : writeOf (take 8 verticesA) edgesN facesN [] ≡ saved (turnedDown 4) []
   pub most-vertices : writeOf (replicate 512 (pos 0)) edgesN facesN [] ≡ saved (turnedDown 7) []
   pub more-vertices : writeOf (replicate 516 (pos 0)) edgesN facesN [] ≡ saved (turnedDown 4) []
-  -- 4: "half-edges odd or not 6 to 756"
+  -- 4: "half-edges odd or not 6 to 756": of 756 it is the x of 10,001
   pub five-edges : writeOf verticesA (take 20 edgesN) facesN [] ≡ saved (turnedDown 4) []
   pub four-edges : writeOf verticesA (take 16 edgesN) facesN [] ≡ saved (turnedDown 4) []
-  pub most-edges : writeOf verticesA (replicate 3024 (pos 0)) facesN [] ≡ saved (turnedDown 7) []
-  pub more-edges : writeOf verticesA (replicate 3032 (pos 0)) facesN [] ≡ saved (turnedDown 4) []
-  -- 4: "faces not 2 to 252"
+  pub most-edges : writeOf (set verticesA 4 (pos 10001)) (replicate 3024 (pos 0)) facesN [] ≡ saved (turnedDown 6) []
+  pub more-edges : writeOf (set verticesA 4 (pos 10001)) (replicate 3032 (pos 0)) facesN [] ≡ saved (turnedDown 4) []
+  -- 4: "faces not 2 to 252": of 252 it is the links again
   pub one-face : writeOf verticesA edgesN (pos 1 ∷ []) [] ≡ saved (turnedDown 4) []
   pub most-faces : writeOf verticesA edgesN (replicate 252 (pos 0)) [] ≡ saved (turnedDown 7) []
   pub more-faces : writeOf verticesA edgesN (replicate 253 (pos 0)) [] ≡ saved (turnedDown 4) []
@@ -145,7 +145,7 @@ pub rows : Rows
 unfolding fileA verticesA edgesA facesA square from eqs spacesOf digitsOf columns lastDigit fieldText valueOf candidate fieldOf lineOf tableOf lineText tableText offGrid crossOf norm2Of side lifted circle countsRefused notBelow badVertex badHalfEdge badFace outOfRange linked linksBroken chartRefusal tablesRefusal countsOf headOf bodyOf chartText numbersRefusal writeRefusal writeOf
 rows =
     record {
-      zero = refl;
+      nought = refl;
       value-most = refl;
       minus-one = refl;
       x-least = refl;
