@@ -14,7 +14,7 @@ use Rattle.geometry.specs.Plane.{offGrid, crossOf, norm2Of, side, lifted, circl
 use Rattle.ranges.specs.Ranges.{countsRefused, notBelow, badVertex, badHalfEdge, badFace, outOfRange}
 use Rattle.links.specs.Links.{linked, linksBroken}
 use Rattle.checks.specs.Checks.{chartRefusal, tablesRefusal}
-use Rattle.reading.specs.Reading.{countsOf, headOf, bodyOf}
+use Rattle.reading.specs.Reading.{countsOf, headOf, fileLength, bodyOf}
 use Rattle.reading.specs.Reading.Body.{body}
 use Rattle.reading.specs.Text.{chartText, numbersIn}
 use Rattle.writing.specs.Writing.{Written, Saved, numbersRefusal, writeRefusal, writeOf}
@@ -94,6 +94,9 @@ pub record Rows : Type 0 where
   pub below-nought : writeOf (set (set verticesA 0 (negsuc 9999)) 1 (negsuc 0)) edgesN facesN (sevens 340) ≡ saved (wrote 340) (put (put fileA (byte 0 2) (45 ∷ figures (1 ∷ 0 ∷ 0 ∷ 0 ∷ 0 ∷ []))) (byte 0 14) (45 ∷ figures (1 ∷ [])))
   -- 3 faces, no multiple of four, are no reason for 2
   pub three-faces : writeOf verticesQ edgesQ facesQ (sevens 514) ≡ saved (wrote 514) square
+  -- the longest text: 128 vertices, 756 half-edges, 252 faces; of the fewest, triangle A's
+  pub longest : fileLength 128 756 252 ≡ 31465
+  pub shortest : fileLength 3 6 2 ≡ 340
   -- "2, when the vertex or half-edge slice is no multiple of four": 13 and 11 numbers of vertices, 23 and 25 of half-edges
   pub vertices-more : writeOf (verticesA ++ (pos 0 ∷ [])) edgesN facesN (sevens 340) ≡ saved (turnedDown 2) (sevens 340)
   pub vertices-fewer : writeOf (take 11 verticesA) edgesN facesN (sevens 340) ≡ saved (turnedDown 2) (sevens 340)
@@ -165,6 +168,8 @@ rows =
       no-room = refl;
       below-nought = refl;
       three-faces = refl;
+      longest = refl;
+      shortest = refl;
       vertices-more = refl;
       vertices-fewer = refl;
       edges-fewer = refl;
