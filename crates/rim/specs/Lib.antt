@@ -6,3 +6,4 @@ pub mod Calls
 pub mod Unreached
 pub mod Loads
 pub mod Ropes
+pub mod Saved

@@ -152,7 +152,8 @@ candidate-text zero (negsuc n) h = let f : ⊥ = omega arith in absurd f
 candidate-text (suc zero) (negsuc n) h = let f : ⊥ = omega arith in absurd f
 candidate-text (suc (suc k)) (negsuc n) h =
     let w : suc (suc k) - 1 ≡ suc k = omega arith in
-    let p : suc n < 10 ^ suc k = rw w at (h .1) in
+    let f : suc n < 10 ^ (suc (suc k) - 1) = h .1 in
+    let p : suc n < 10 ^ suc k = rw w at f in
     let q : suc n < 10 ^ suc (suc k) = rw (pow-succ' 10 (suc k)) (omega arith) in
     rw (value-digits (lastDigit (suc (suc k)) 45 (suc n)), value-text (suc k) 45 (suc n) q (omega arith), minus-neg-text k (suc n) p) refl
 

@@ -51,7 +51,7 @@ pub record WrittenBack : Type 0 where
   -- "nothing is written" by a refused call
   pub refused-same :
       (vs es fs : List ℤ) (lent : List ℕ) (n : ℕ) → writeOf vs es fs lent .answer ≡ turnedDown n → writeOf vs es fs lent .buffer ≡ lent
-  -- a buffer as long as the longest file has room for any tables that 2, 4 and 6 to 11 do not meet
+  -- a buffer as long as the longest file, 31,465 bytes, has room for any tables that 2, 4 and 6 to 11 do not meet
   pub room-enough : (vs es fs : List ℤ) → numbersRefusal vs es fs ≡ 0 → length (chartText vs es fs) ≤ fileLength MostVertices MostHalfEdges MostFaces
 
 -- ---- a file
