@@ -7,6 +7,10 @@ use native.Mathlib.Omega.{arith}
 use lib.IntN.{ℤ}
 use lib.ListN.{length, take, drop}
 use lib.Seq.{take-at}
+use Rattle.text.specs.Field.{fieldOf, fieldText}
+use Rattle.text.specs.declared.Field.the-variants.{Number}
+use Rattle.text.specs.Written.{Fits}
+use Rattle.text.specs.Written as F
 use Rattle.chart.specs.Limits.{MostVertices, MostHalfEdges, MostFaces}
 use Rattle.chart.specs.Tables.{rows, unsignedAll}
 use Rattle.ranges.specs.Passed.{Counted, counts-pass}
@@ -32,6 +36,10 @@ pub record Numbers (s : List ℕ) : Type 0 where
   pub held : numbersIn s ≡ body vertices edges faces
 
 pub record WrittenBack : Type 0 where
+  -- "One proof covers a field of any kind": of any width, bytes that hold a number are its text ..
+  pub field-read : (s : List ℕ) (z : ℤ) → fieldOf s ≡ Number z → s ≡ fieldText (length s) z
+  -- .. and the text of a number that has one in w columns holds it
+  pub field-back : (w : ℕ) (z : ℤ) → Fits w z → fieldOf (fieldText w z) ≡ Number z
   -- "The bytes equal the file that was read, for every accepted file": each holds tables as numbers ..
   pub file-numbers : (s : List ℕ) → chartRefusalOf s ≡ 0 → Numbers s
   -- .. which are those that every other call reads ..
@@ -135,6 +143,8 @@ text-room vs es fs h =
 pub written-back : WrittenBack
 written-back =
     record {
+      field-read = F.field-read;
+      field-back = F.field-back;
       file-numbers = λ s h. numbers-body s (numbersIn s) refl (numbers-by s (headOf s) refl) (refusal-by s h);
       file-tables = λ s vs es fs h q. as-chart s vs es fs q (accepted-tables s vs es fs h q);
       file-written = λ s vs es fs lent h q l.
