@@ -3,7 +3,8 @@
 Equivalent, so alive for good: 'segment open at one end only' (the vertex at q comes first); '11 locally only' (Delaunay's lemma:
 with 7 to 10, no vertex inside a neighbour's circle means none inside any); '7 without the last half-edge', '10 without ..' and
 '11 without ..' (what they refuse comes in pairs: with 7 for all half-edges but one, it holds for that one; a reflex corner of the hull
-offends two half-edges by two vertices; an edge that 11 refuses offends two faces by two vertices). No test shows these, a proof does.
+offends two half-edges by two vertices; an edge that 11 refuses offends two faces by two vertices); 'written: 129 vertices' (the writer is
+lent no more rows than a file has). No test shows these, a proof does. A mutant that breaks off is noticed too.
 
     mutants.py [--only KINDS] DIR [SKIP]   DIR: a suite with the answers of the Rust oracle; SKIP: leave out the first mutants;
                                            --only: by these kinds of lines alone
