@@ -89,12 +89,12 @@ fn without(n: usize, k: usize) -> usize
     if n < k { 0 } else { n - k }
 }
 
-// Eight bytes more.
+// Eight more, of a length that is a chart's.
 fn longer(n: usize) -> usize {
     if n < 65536 { n + 8 } else { n }
 }
 
-// The writer's answer in a buffer of so many zeros, within a line. No chart that has tables is longer than 65,536 bytes.
+// The writer's answer in a buffer of so many zeros, within a line. There are 65,536 of them, and the largest chart has 31,465 bytes.
 fn answer(chart: &[u8], vertices: &[i64], edges: &[i64], faces: &[i64], room: usize) {
     let mut space = io::large_buffer();
     answer_in(chart, vertices, edges, faces, &mut space, room);
