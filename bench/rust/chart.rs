@@ -1,4 +1,5 @@
-//! 01's chart text and its refusals 3 to 11 in plain Rust: one pass over the bytes, no allocation but the three tables.
+//! 01's chart text and its refusals 3 to 11 in plain Rust: one pass over the bytes, no allocation but the three tables. And CR 1's writer.
+use std::io::Write;
 
 pub struct Tables {
     pub vertices: Vec<[i64; 4]>, // x, y, value, out half-edge
@@ -60,13 +61,18 @@ fn circle(a: [i64; 4], b: [i64; 4], c: [i64; 4], q: [i64; 4]) -> i64 {
     ax * (by * cz - bz * cy) - ay * (bx * cz - bz * cx) + az * (bx * cy - by * cx)
 }
 
+/// 4.
+fn bad_counts(v: i64, h: i64, f: i64) -> bool {
+    !(3..=128).contains(&v) || !(6..=756).contains(&h) || h % 2 != 0 || !(2..=252).contains(&f)
+}
+
 /// The tables, or 3, 5 or 4.
 fn parse(b: &[u8]) -> Result<(Vec<[i64; 4]>, Vec<[i64; 4]>, Vec<i64>), u64> {
     if b.len() < 25 {
         return Err(3);
     }
     let [v, h, f] = line::<3>(b)?;
-    if !(3..=128).contains(&v) || !(6..=756).contains(&h) || h % 2 != 0 || !(2..=252).contains(&f) {
+    if bad_counts(v, h, f) {
         return Err(4);
     }
     let (nv, nh, nf) = (v as usize, h as usize, f as usize);
@@ -110,6 +116,37 @@ fn links_broken(t: &Tables) -> bool {
 /// The tables of an accepted chart, or its refusal.
 pub fn read(b: &[u8]) -> Result<Tables, u64> {
     let (vertices, h, f) = parse(b)?;
+    check(vertices, &h, &f)
+}
+
+/// The text of three tables of numbers into the lent bytes, by Rust's own formatting; its length, or the refusal.
+pub fn write(v: &[i64], h: &[i64], f: &[i64], lent: &mut [u8]) -> Result<usize, u64> {
+    if v.len() % 4 != 0 || h.len() % 4 != 0 {
+        return Err(2);
+    }
+    let (nv, nh, nf) = (v.len() / 4, h.len() / 4, f.len());
+    if bad_counts(nv as i64, nh as i64, nf as i64) {
+        return Err(4);
+    }
+    let rows = |t: &[i64]| t.chunks_exact(4).map(|r| [r[0], r[1], r[2], r[3]]).collect::<Vec<_>>();
+    check(rows(v), &rows(h), f)?;
+    let length = 25 + 33 * nv + 33 * nh + 9 * nf;
+    if lent.len() < length {
+        return Err(18);
+    }
+    let mut text = lent;
+    writeln!(text, "{nv:>8}{nh:>8}{nf:>8}").unwrap();
+    for r in v.chunks_exact(4).chain(h.chunks_exact(4)) {
+        writeln!(text, "{:>8}{:>8}{:>8}{:>8}", r[0], r[1], r[2], r[3]).unwrap();
+    }
+    for n in f {
+        writeln!(text, "{n:>8}").unwrap();
+    }
+    Ok(length)
+}
+
+/// The tables, or 6 to 11.
+fn check(vertices: Vec<[i64; 4]>, h: &[[i64; 4]], f: &[i64]) -> Result<Tables, u64> {
     let (nv, nh, nf) = (vertices.len() as u64, h.len() as u64, f.len() as u64);
     let below = |n: i64, count: u64| (n as u64) < count; // a negative one is huge
     let grid = |n: i64| (-GRID..=GRID).contains(&n);

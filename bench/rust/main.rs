@@ -14,11 +14,12 @@ const SECTIONS: u64 = 16;
 #[derive(Clone, Copy)]
 enum Work {
     Check,
+    Write,
     Method(i64),
     Mixed,
 }
-const WORKS: [(&str, Work); 5] =
-    [("check", Work::Check), ("method 1", Work::Method(1)), ("method 2", Work::Method(2)), ("method 3", Work::Method(3)), ("mixed", Work::Mixed)];
+const WORKS: [(&str, Work); 6] =
+    [("check", Work::Check), ("write", Work::Write), ("method 1", Work::Method(1)), ("method 2", Work::Method(2)), ("method 3", Work::Method(3)), ("mixed", Work::Mixed)];
 
 /// Numbers that are the same in each run.
 struct Numbers(u64);
@@ -72,26 +73,60 @@ fn fresh() -> Book {
     b
 }
 
+/// A chart's tables as numbers in file order.
+struct Numbered {
+    vertices: Vec<i64>,
+    half: Vec<i64>,
+    faces: Vec<i64>,
+}
+impl Numbered {
+    fn of(t: &chart::Tables) -> Self {
+        Numbered {
+            vertices: t.vertices.concat(),
+            half: t.half.iter().flatten().map(|&n| n as i64).collect(),
+            faces: t.faces.iter().map(|&n| n as i64).collect(),
+        }
+    }
+}
+
+/// What a call is lent to write: a batch its answers; the writer its text, and the text's length as the first answer.
+#[derive(Clone, PartialEq)]
+struct Lent {
+    answers: Vec<u64>,
+    text: Vec<u8>,
+}
+
 /// One call of the port or of the Rust: its refusal, and for a batch the book after it.
 struct Case<'a> {
     text: &'a [u8],
+    tables: &'a Numbered,
     entries: Vec<i64>,
     work: Work,
 }
 impl Case<'_> {
-    fn port(&self, answers: &mut [u64]) -> (u64, Book) {
+    fn port(&self, lent: &mut Lent) -> (u64, Book) {
         let mut book = fresh();
+        let t = self.tables;
         let n = match self.work {
             Work::Check => port::check(self.text),
-            _ => port::batch(&mut book, self.text, &self.entries, answers),
+            Work::Write => port::write(&t.vertices, &t.half, &t.faces, &mut lent.text, &mut lent.answers[..1]),
+            _ => port::batch(&mut book, self.text, &self.entries, &mut lent.answers),
         };
         (n, book)
     }
-    fn rust(&self, answers: &mut [u64]) -> (u64, Book) {
+    fn rust(&self, lent: &mut Lent) -> (u64, Book) {
         let mut book = fresh();
+        let t = self.tables;
         let n = match self.work {
             Work::Check => account::check(self.text),
-            _ => account::batch(&mut book, self.text, &self.entries, answers),
+            Work::Write => match chart::write(&t.vertices, &t.half, &t.faces, &mut lent.text) {
+                Ok(n) => {
+                    lent.answers[0] = n as u64;
+                    0
+                }
+                Err(n) => n,
+            },
+            _ => account::batch(&mut book, self.text, &self.entries, &mut lent.answers),
         };
         (n, book)
     }
@@ -123,13 +158,17 @@ fn median(mut v: Vec<f64>) -> f64 {
 }
 
 fn run(name: &str, case: &Case, work: &str, rounds: usize, slice_ns: f64) {
-    let (mut a, mut b) = (vec![0; ENTRIES], vec![0; ENTRIES]);
+    let mut a = Lent { answers: vec![0; ENTRIES], text: vec![0; case.text.len()] };
+    let mut b = a.clone();
     assert_eq!(case.port(&mut a), case.rust(&mut b), "{name}, {work}: refusal or book");
-    assert_eq!(a, b, "{name}, {work}: answers");
-    let port = |a: &mut Vec<u64>| {
+    assert!(a == b, "{name}, {work}: answers");
+    if let Work::Write = case.work {
+        assert!(a.text == case.text && a.answers[0] == case.text.len() as u64, "{name}, {work}: the file");
+    }
+    let port = |a: &mut Lent| {
         black_box(case.port(black_box(a)));
     };
-    let rust = |b: &mut Vec<u64>| {
+    let rust = |b: &mut Lent| {
         black_box(case.rust(black_box(b)));
     };
     let calls = |ns: f64| (slice_ns / ns).ceil().max(1.0) as usize;
@@ -140,7 +179,7 @@ fn run(name: &str, case: &Case, work: &str, rounds: usize, slice_ns: f64) {
         r.push(time(nr, || rust(&mut b)));
     }
     let (p, r) = (median(p), median(r));
-    let each = if let Work::Check = case.work { String::new() } else { format!("{:>9.0}{:>9.0}", p / ENTRIES as f64, r / ENTRIES as f64) };
+    let each = if let Work::Check | Work::Write = case.work { String::new() } else { format!("{:>9.0}{:>9.0}", p / ENTRIES as f64, r / ENTRIES as f64) };
     println!("{name:<10}{work:<10}{:>11.2}{:>11.2}{:>8.2}{each}", p / 1000.0, r / 1000.0, p / r);
 }
 
@@ -156,6 +195,7 @@ fn main() {
         let t = chart::read(&text).ok().expect("an accepted chart");
         let name = std::path::Path::new(path).file_stem().unwrap().to_str().unwrap();
         let at = loads(&t, &mut Numbers(7));
+        let tables = Numbered::of(&t);
         for (label, work) in WORKS {
             if only.as_ref().is_some_and(|o| o != label) {
                 continue;
@@ -165,7 +205,7 @@ fn main() {
                 _ => 1 + i as i64 % 3,
             };
             let entries = at.iter().enumerate().flat_map(|(i, &(x, y))| [1, (i as u64 % SECTIONS) as i64, x, y, method(i)]).collect();
-            run(name, &Case { text: &text, entries, work }, label, rounds, slice_ns);
+            run(name, &Case { text: &text, tables: &tables, entries, work }, label, rounds, slice_ns);
         }
     }
 }

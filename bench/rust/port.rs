@@ -11,6 +11,18 @@ extern "C" {
         answers: *mut u64,
         answers_len: usize,
     ) -> u64;
+    fn estivolh_write_chart(
+        vertices: *const i64,
+        vertices_len: usize,
+        half_edges: *const i64,
+        half_edges_len: usize,
+        faces: *const i64,
+        faces_len: usize,
+        text: *mut u8,
+        text_len: usize,
+        found: *mut u64,
+        found_len: usize,
+    ) -> u64;
 }
 
 pub fn check(chart: &[u8]) -> u64 {
@@ -28,6 +40,23 @@ pub fn batch(book: &mut [u64; 34], chart: &[u8], entries: &[i64], answers: &mut 
             entries.len(),
             answers.as_mut_ptr(),
             answers.len(),
+        )
+    }
+}
+
+pub fn write(vertices: &[i64], half: &[i64], faces: &[i64], text: &mut [u8], found: &mut [u64]) -> u64 {
+    unsafe {
+        estivolh_write_chart(
+            vertices.as_ptr(),
+            vertices.len(),
+            half.as_ptr(),
+            half.len(),
+            faces.as_ptr(),
+            faces.len(),
+            text.as_mut_ptr(),
+            text.len(),
+            found.as_mut_ptr(),
+            found.len(),
         )
     }
 }

@@ -12,7 +12,7 @@ mod chart;
 use chart::Chart;
 
 /// The kinds of lines that a case's answers have.
-const KINDS: [&str; 11] = ["verdict", "room", "gradient", "query", "location", "barycentric", "edges", "natural", "value", "batch", "log"];
+const KINDS: [&str; 12] = ["verdict", "written", "room", "gradient", "query", "location", "barycentric", "edges", "natural", "value", "batch", "log"];
 /// Those that each query has.
 const QUERY: [&str; 6] = ["query", "location", "barycentric", "edges", "natural", "value"];
 
@@ -415,11 +415,41 @@ fn queries(path: &std::path::Path) -> Vec<(i64, i64)> {
     numbers(path).chunks(2).map(|c| (c[0], c[1])).collect()
 }
 
+/// The lines of a chart written back; none where it has no tables.
+fn written(chart: &[u8]) -> String {
+    let Ok([v, h, f]) = chart::numbers(chart, None) else {
+        return String::new();
+    };
+    let n = chart.len();
+    let answer = |v: &[i64], h: &[i64], f: &[i64], room: usize| -> String {
+        let mut lent = vec![0u8; room];
+        let (mut said, kept) = match chart::write(v, h, f, &mut lent) {
+            Err(n) => (format!(" refused {n}"), 0),
+            Ok(m) => (format!(" {m} {}", if m <= n && lent[..m] == chart[..m] { "same" } else { "other" }), m),
+        };
+        if lent[kept..].iter().any(|&b| b != 0) {
+            said += " changed";
+        }
+        said
+    };
+    let but = |t: &'_ [i64], k: usize| t[..t.len() - k].to_vec();
+    let mut o = String::new();
+    writeln!(o, "written{}", answer(&v, &h, &f, n)).unwrap();
+    writeln!(o, "short{}", answer(&v, &h, &f, n - 1)).unwrap();
+    writeln!(o, "longer{}", answer(&v, &h, &f, n + 8)).unwrap();
+    writeln!(o, "uneven{}{}", answer(&but(&v, 1), &h, &f, n), answer(&v, &but(&h, 1), &f, n)).unwrap();
+    writeln!(o, "less{}{}{}", answer(&but(&v, 4), &h, &f, n), answer(&v, &but(&h, 4), &f, n), answer(&v, &h, &but(&f, 1), n)).unwrap();
+    o
+}
+
 fn answers(chart: &[u8], q: &[(i64, i64)], rooms: &[usize], only: &Only) -> (String, usize) {
     let read = chart::read(chart, None);
     let mut s = String::new();
     if only.has("verdict") {
         writeln!(s, "verdict {}", read.as_ref().err().unwrap_or(&0)).unwrap();
+    }
+    if only.has("written") {
+        s += &written(chart);
     }
     if only.has("room") {
         for &r in rooms {

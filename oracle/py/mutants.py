@@ -3,7 +3,8 @@
 Equivalent, so alive for good: 'segment open at one end only' (the vertex at q comes first); '11 locally only' (Delaunay's lemma:
 with 7 to 10, no vertex inside a neighbour's circle means none inside any); '7 without the last half-edge', '10 without ..' and
 '11 without ..' (what they refuse comes in pairs: with 7 for all half-edges but one, it holds for that one; a reflex corner of the hull
-offends two half-edges by two vertices; an edge that 11 refuses offends two faces by two vertices). No test shows these, a proof does.
+offends two half-edges by two vertices; an edge that 11 refuses offends two faces by two vertices); 'written: 129 vertices' (the writer is
+lent no more rows than a file has). No test shows these, a proof does. A mutant that breaks off is noticed too.
 
     mutants.py [--only KINDS] DIR [SKIP]   DIR: a suite with the answers of the Rust oracle; SKIP: leave out the first mutants;
                                            --only: by these kinds of lines alone
@@ -52,7 +53,7 @@ M = [
     ('negative value charged', "if f < Fraction(-1, 2) or", "if f < Fraction(-1) or"),
     ('highest outer half-edge', "    for h in range(len(c.h)):\n        if c.face(h) == 0 and side(c.frm(h), c.to(h), q) > 0: return 'outside', h", "    for h in reversed(range(len(c.h))):\n        if c.face(h) == 0 and side(c.frm(h), c.to(h), q) > 0: return 'outside', h"),
     ('on the hull line is outside', "if c.face(h) == 0 and side(c.frm(h), c.to(h), q) > 0: return", "if c.face(h) == 0 and side(c.frm(h), c.to(h), q) >= 0: return"),
-    ('length before counts', "    if nv < 3 or nv > 128", "    if len(b) != 25 + 33 * nv + 33 * nh + 9 * nf:\n        return 3, None\n    if nv < 3 or nv > 128"),
+    ('length before counts', "    if counts_refused(nv, nh, nf):", "    if len(b) != 25 + 33 * nv + 33 * nh + 9 * nf:\n        return 3, None\n    if counts_refused(nv, nh, nf):"),
     ('128 vertices are too many', "nv > 128", "nv > 127"),
     ('129 vertices', "nv > 128", "nv > 129"),
     ('odd half-edges', "nh % 2 or ", ""),
@@ -123,6 +124,32 @@ M = [
     ('list: never a damaged chart', "b[:max(0, len(b) - cut)]", "b"),
     ('list: ends at a refused batch', "    while lines[at]:", "    while lines[at] and 'refused' not in out:"),
     ('log: count before length', "        if len(log) % 41: n = 3\n        elif len(log) > 41 * 512: n = 4", "        if len(log) > 41 * 512: n = 4\n        elif len(log) % 41: n = 3"),
+    ('written: 18 before 11', "    if n: return n, 0\n    t = c.text()\n    if len(lent) < len(t): return 18, 0\n", "    t = c.text()\n    if n and n < 11: return n, 0\n    if len(lent) < len(t): return 18, 0\n    if n: return n, 0\n"),
+    ('written: 18 before 6', "    if n: return n, 0\n    t = c.text()\n    if len(lent) < len(t): return 18, 0\n", "    t = c.text()\n    if len(lent) < len(t): return 18, 0\n    if n: return n, 0\n"),
+    ('written: room one short', "len(lent) < len(t)", "len(lent) <= len(t)"),
+    ('written: room not tested', "    if len(lent) < len(t): return 18, 0\n    lent[:len(t)] = t\n", "    lent[:len(t)] = t[:len(lent)]\n"),
+    ('written: before the room is tested', "    if len(lent) < len(t): return 18, 0\n    lent[:len(t)] = t\n", "    lent[:len(t)] = t[:len(lent)]\n    if len(lent) < len(t): return 18, 0\n"),
+    ('written: spaces past the text', "    lent[:len(t)] = t\n", "    lent[:] = t.ljust(len(lent))\n"),
+    ('written: faces by four', "if len(vs) % 4 or len(hs) % 4: return 2, 0", "if len(vs) % 4 or len(hs) % 4 or len(fs) % 4: return 2, 0"),
+    ('written: vertices not by four', "if len(vs) % 4 or len(hs) % 4: return 2, 0", "if len(hs) % 4: return 2, 0"),
+    ('written: half-edges not by four', "if len(vs) % 4 or len(hs) % 4: return 2, 0", "if len(vs) % 4: return 2, 0"),
+    ('written: 4 before 2', "    if len(vs) % 4 or len(hs) % 4: return 2, 0\n    if counts_refused(len(vs) // 4, len(hs) // 4, len(fs)): return 4, 0\n", "    if counts_refused(len(vs) // 4, len(hs) // 4, len(fs)): return 4, 0\n    if len(vs) % 4 or len(hs) % 4: return 2, 0\n"),
+    ('written: 4 not tested', "if counts_refused(len(vs) // 4, len(hs) // 4, len(fs)): return 4, 0", "pass"),
+    ('written: 6 before 4', "    if counts_refused(len(vs) // 4, len(hs) // 4, len(fs)): return 4, 0\n", "    if counts_refused(len(vs) // 4, len(hs) // 4, len(fs)) and max(hs[3::4]) < len(fs) and max(hs[::4]) < len(vs) // 4: return 4, 0\n"),
+    ('written: two vertices are enough', "if counts_refused(len(vs) // 4, len(hs) // 4, len(fs)):", "if counts_refused(max(3, len(vs) // 4), len(hs) // 4, len(fs)):"),
+    ('written: one face is enough', "if counts_refused(len(vs) // 4, len(hs) // 4, len(fs)):", "if counts_refused(len(vs) // 4, len(hs) // 4, max(2, len(fs))):"),
+    ('written: an odd half-edge is let pass', "if counts_refused(len(vs) // 4, len(hs) // 4, len(fs)):", "if counts_refused(len(vs) // 4, len(hs) // 8 * 2, len(fs)):"),
+    ('written: 129 vertices', "if counts_refused(len(vs) // 4, len(hs) // 4, len(fs)):", "if counts_refused(min(128, len(vs) // 4), len(hs) // 4, len(fs)):"),
+    ('written: tables not checked', "    if n: return n, 0\n    t = c.text()\n", "    t = c.text()\n"),
+    ('written: 11 not tested', "    if n: return n, 0\n    t = c.text()\n", "    if n and n < 11: return n, 0\n    t = c.text()\n"),
+    ('written: the length of the buffer', "return 0, len(t)\n", "return 0, len(lent)\n"),
+    ('written: negative half-edge numbers as 0', "c = Chart(rows(vs), rows(hs), fs)", "c = Chart(rows(vs), rows([max(0, n) for n in hs]), fs)"),
+    ('written: negative face numbers as 0', "c = Chart(rows(vs), rows(hs), fs)", "c = Chart(rows(vs), rows(hs), [max(0, n) for n in fs])"),
+    ('written: sign in the first column', "''.join('%8d' % n for n in r)", "''.join('-%7d' % -n if n < 0 else '%8d' % n for n in r)"),
+    ('written: no sign', "''.join('%8d' % n for n in r)", "''.join('%8d' % abs(n) for n in r)"),
+    ('written: zeros for spaces', "''.join('%8d' % n for n in r)", "''.join('%08d' % n for n in r)"),
+    ('written: left-justified', "''.join('%8d' % n for n in r)", "''.join('%-8d' % n for n in r)"),
+    ('written: six digits', "''.join('%8d' % n for n in r)", "''.join('%8d' % (n % 1000000 if n > 0 else n) for n in r)"),
     ('log: 512 are too many', "len(log) > 41 * 512", "len(log) >= 41 * 512"),
 ]
 

@@ -82,6 +82,10 @@ def circle(a, b, c, q):
     return a * e * i + b * f * g + c * d * h - c * e * g - b * d * i - a * f * h
 
 
+def counts_refused(nv, nh, nf):
+    return nv < 3 or nv > 128 or nh % 2 or nh < 6 or nh > 756 or nf < 2 or nf > 252
+
+
 def parse(b, room=None):
     """(refusal, None) with 3, 4, 5 or 2; or (0, Chart of unchecked tables)."""
     if len(b) < 25:
@@ -90,7 +94,7 @@ def parse(b, room=None):
     if c is None:
         return 5, None
     nv, nh, nf = c
-    if nv < 3 or nv > 128 or nh % 2 or nh < 6 or nh > 756 or nf < 2 or nf > 252:
+    if counts_refused(nv, nh, nf):
         return 4, None
     if room is not None and room < nh:
         return 2, None
@@ -153,6 +157,20 @@ def table_faults(c):
 def refusal(b, room=None):
     n, c = parse(b, room)
     return n if n else table_faults(c)
+
+
+def write_chart(vs, hs, fs, lent):
+    """CR 1: the text of three tables of numbers into a bytearray; (0, its length), or (the refusal, 0) and nothing is written."""
+    if len(vs) % 4 or len(hs) % 4: return 2, 0
+    if counts_refused(len(vs) // 4, len(hs) // 4, len(fs)): return 4, 0
+    rows = lambda t: [t[i:i + 4] for i in range(0, len(t) - 3, 4)]
+    c = Chart(rows(vs), rows(hs), fs)
+    n = table_faults(c)
+    if n: return n, 0
+    t = c.text()
+    if len(lent) < len(t): return 18, 0
+    lent[:len(t)] = t
+    return 0, len(t)
 
 
 # ---------------------------------------------------------------- location, neighbours, weights
@@ -357,6 +375,26 @@ def take_only(argv):
     return only
 
 
+def written(b):
+    """The lines of a chart written back: from its tables as numbers, with rooms about its length, and from tables that lack something."""
+    n, c = parse(b)
+    if n: return []
+    vs, hs, fs = sum(c.v, []), sum(c.h, []), c.f
+
+    def answer(v, h, f, room):
+        lent = bytearray(room)
+        n, m = write_chart(v, h, f, lent)
+        said = 'refused %d' % n if n else '%d %s' % (m, 'same' if lent[:m] == b[:m] else 'other')
+        return said + (' changed' if any(lent[m:]) else '')
+
+    size = len(b)
+    return ['written ' + answer(vs, hs, fs, size),
+            'short ' + answer(vs, hs, fs, size - 1),
+            'longer ' + answer(vs, hs, fs, size + 8),
+            'uneven ' + ' '.join([answer(vs[:-1], hs, fs, size), answer(vs, hs[:-1], fs, size)]),
+            'less ' + ' '.join([answer(vs[:-4], hs, fs, size), answer(vs, hs[:-4], fs, size), answer(vs, hs, fs[:-1], size)])]
+
+
 def answers(b, queries, rooms=(), only=None):
     def put(kind, text):
         if only is None or kind in only: o.append('%s %s' % (kind, text()))
@@ -380,8 +418,9 @@ def answers(b, queries, rooms=(), only=None):
     o = []
     n = refusal(b)
     put('verdict', lambda: n)
+    if only is None or 'written' in only: o += written(b)
     for r in rooms: put('room', lambda: '%d %d' % (r, refusal(b, r)))
-    if n or (only is not None and only <= {'verdict', 'room'}): return '\n'.join(o + [''])
+    if n or (only is not None and only <= {'verdict', 'written', 'room'}): return '\n'.join(o + [''])
     c = parse(b)[1]
     grads = [gradient(c, i) for i in range(len(c.v))]
     for i, g in enumerate(grads): put('gradient', lambda: '%d %s %s' % (i, bits(g[0]), bits(g[1])))

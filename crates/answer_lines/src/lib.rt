@@ -11,6 +11,27 @@ pub fn verdict(number: u64) {
     ending(b"verdict ", number);
 }
 
+// An answer of the writer, within a line: how long its text is, and whether the file has the same bytes.
+pub fn written(length: u64, same: bool) {
+    word(b" ");
+    natural(length);
+    if same {
+        word(b" same");
+    } else {
+        word(b" other");
+    }
+}
+
+pub fn unwritten(number: u64) {
+    word(b" refused ");
+    natural(number);
+}
+
+// Stands after an answer of the writer where bytes are changed that are none of its text.
+pub fn changed() {
+    word(b" changed");
+}
+
 // The refusals by a short list of edges, of vertices and of weights: the oracle has one number, and so has the line where they are alike.
 pub fn room(length: u64, edges: u64, owners: u64, weights: u64) {
     word(b"room ");

@@ -7,6 +7,7 @@ const CUT: usize = 65536;
 pub fn answers(chart: &[u8], text: &[u8], lengths: &[u8], accounts: &[u8], log: &[u8]) {
     let number = estivolh::check(chart);
     answer_lines::verdict(number);
+    case_written::lines(chart);
     if !case_rooms::all_rooms(chart, lengths) {
         answer_lines::broken_rooms();
         return;

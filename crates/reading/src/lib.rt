@@ -60,7 +60,7 @@ fn fill(text: &[u8], at: usize, w: usize, n: usize, out: &mut [i64]) -> bool
 }
 
 // The three tables into the first elements of the lent slices; 0, or the refusal 3 or 5.
-fn read_body(
+pub fn read_body(
     text: &[u8],
     v: usize,
     e: usize,
