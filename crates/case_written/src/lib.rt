@@ -1,29 +1,8 @@
 // A case's chart written back: its tables, as numbers, are lent to the writer with room for the file and with other rooms, and in part.
-ghost use mathlib.Core.Path.{_≡_};
 ghost use Prim.Native.Nat.{_≤_};
-ghost use lib.ListN.{length};
 ghost use Rattle.ranges.specs.Passed.{Counted};
 use estivolh::WrittenChart;
 use reading::Head;
-
-// Room for the tables of the largest chart, as numbers.
-fn vertex_room() -> [i64; 512]
-    ensures { λ r. ⌜ length r ≡ 512 ⌝ }
-{
-    [0i64; 512]
-}
-
-fn edge_room() -> [i64; 3024]
-    ensures { λ r. ⌜ length r ≡ 3024 ⌝ }
-{
-    [0i64; 3024]
-}
-
-fn face_room() -> [i64; 252]
-    ensures { λ r. ⌜ length r ≡ 252 ⌝ }
-{
-    [0i64; 252]
-}
 
 // The lines of a chart; one that 3, 4 or 5 refuses has no tables, and no lines.
 pub fn lines(chart: &[u8]) {
@@ -37,9 +16,9 @@ pub fn lines(chart: &[u8]) {
 fn body_lines(chart: &[u8], v: usize, e: usize, f: usize)
     requires { ⌜ Counted v e f ⌝ }
 {
-    let mut vertices = vertex_room();
-    let mut edges = edge_room();
-    let mut faces = face_room();
+    let mut vertices = chart::vertex_room();
+    let mut edges = reading::edge_room();
+    let mut faces = reading::face_room();
     let refusal = reading::read_body(chart, v, e, f, &mut vertices, &mut edges, &mut faces);
     if refusal != 0 {
         return;

@@ -91,13 +91,13 @@ pub fn read_body(
 }
 
 // Room for the half-edges' numbers of the largest chart, and for its faces'.
-fn edge_room() -> [i64; 3024]
+pub fn edge_room() -> [i64; 3024]
     ensures { λ r. ⌜ length r ≡ 3024 ⌝ }
 {
     [0i64; 3024]
 }
 
-fn face_room() -> [i64; 252]
+pub fn face_room() -> [i64; 252]
     ensures { λ r. ⌜ length r ≡ 252 ⌝ }
 {
     [0i64; 252]
