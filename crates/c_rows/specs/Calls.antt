@@ -1,7 +1,7 @@
 -- The exported calls on triangle A: the numbers that include/estivolh.h names (kinds, counts, the book's 34), with 01's and the Rust's answers, as computed rows
 -- about the calls' definitions. Assumes nothing.
 use mathlib.Core.Path.{_≡_, refl}
-use mathlib.Core.List.{List, [], _∷_, _++_}
+use mathlib.Core.List.{List, [], _∷_, _++_, map}
 use Prim.Native.Nat.{ℕ}
 use lib.IntN.{ℤ, pos, negsuc}
 use lib.Ieee.{Float, binary64, add, sub, mul, div, le, lt, eq, ne, neg, ofBits, ofInt}
@@ -10,11 +10,14 @@ use Rattle.whole.specs.First.{from}
 use Rattle.text.specs.Bytes.{eqs}
 use Rattle.text.specs.Field.{spacesOf, digitsOf, columns, lastDigit, fieldText, valueOf, candidate, fieldOf}
 use Rattle.tables.specs.Table.{lineOf, tableOf}
+use Rattle.tables.specs.Text.{lineText, tableText}
 use Rattle.geometry.specs.Plane.{offGrid, crossOf, dotOf, norm2Of, side, lifted, circle, onOpenSegment}
 use Rattle.ranges.specs.Ranges.{countsRefused, notBelow, badVertex, badHalfEdge, badFace, outOfRange}
 use Rattle.links.specs.Links.{linked, linksBroken}
 use Rattle.checks.specs.Checks.{chartRefusal, tablesRefusal}
 use Rattle.reading.specs.Reading.{countsOf, headOf, bodyOf, loadOf, chartIn}
+use Rattle.reading.specs.Text.{chartText}
+use Rattle.writing.specs.Writing.{numbersRefusal, writeRefusal, writeOf}
 use Rattle.locate.specs.Location.{locationOf}
 use Rattle.faceset.specs.Set as S
 use Rattle.flips.specs.Search.{inCircle, shouldFlip, inspect, inspectAll}
@@ -37,6 +40,7 @@ use Rattle.triangle.specs.TriangleA.{fileA, verticesA, edgesA, facesA}
 use Rattle.slices.specs.Lent.{Left}
 use Rattle.slices.specs.Answers.{WeightsLeft}
 use Rattle.estivolh_c.specs.Queries.{locateCalled, barycentricCalled, EdgesLeft, edgesCalled, sharesCalled, gradientCalled, interpolateCalled}
+use Rattle.estivolh_c.specs.Writing.{TextLeft, writeCalled}
 use Rattle.estivolh_c.specs.Account.{chargeCalled, freshCalled, BatchLeft, batchCalled}
 
 -- what a call returns and leaves
@@ -51,6 +55,16 @@ edgesAre n es c = record { answer = n; edges = es; found = c }
 
 abbrev bookIs : ℕ → List ℕ → List ℕ → BatchLeft
 bookIs n b l = record { answer = n; book = b; answers = l }
+
+abbrev textIs : ℕ → List ℕ → List ℕ → TextLeft
+textIs n t c = record { answer = n; text = t; found = c }
+
+-- triangle A's half-edges and faces as numbers
+abbrev edgesN : List ℤ
+edgesN = map pos edgesA
+
+abbrev facesN : List ℤ
+facesN = map pos facesA
 
 abbrev bits : ℕ → Float
 bits n = ofBits binary64 n
@@ -118,9 +132,16 @@ pub record Rows : Type 0 where
   pub batch-short : batchCalled (nines 33) fileA bend (nines 1) ≡ bookIs 2 (nines 33) (nines 1)
   pub batch-bad-book : batchCalled (nines 34) fileA bend (nines 1) ≡ bookIs 1 (nines 34) (nines 1)
   pub batch-refused : batchCalled (numbers 3 7 4 2 5) [] bend (nines 1) ≡ bookIs 3 (numbers 3 7 4 2 5) (nines 1)
+  -- `estivolh_write_chart` (02, CR 1): the text, bytes past it unchanged, and its length, 340
+  pub text : writeCalled verticesA edgesN facesN (nines 342) (nines 2) ≡ textIs 0 (fileA ++ nines 2) (340 ∷ 9 ∷ [])
+  -- refused, it writes neither: a buffer of 339 bytes; 13 numbers of vertices
+  pub text-short : writeCalled verticesA edgesN facesN (nines 339) (nines 2) ≡ textIs 18 (nines 339) (nines 2)
+  pub text-uneven : writeCalled (pos 0 ∷ verticesA) edgesN facesN (nines 342) (nines 2) ≡ textIs 2 (nines 342) (nines 2)
+  -- no room for the length, before all else
+  pub text-unfound : writeCalled verticesA edgesN [] (nines 342) [] ≡ textIs 2 (nines 342) []
 
 pub rows : Rows
-unfolding fileA verticesA edgesA facesA from eqs spacesOf digitsOf columns lastDigit fieldText valueOf candidate fieldOf lineOf tableOf offGrid crossOf dotOf norm2Of side lifted circle onOpenSegment countsRefused notBelow badVertex badHalfEdge badFace outOfRange linked linksBroken chartRefusal tablesRefusal countsOf headOf bodyOf loadOf chartIn locationOf S.none S.add S.countBelow inCircle shouldFlip inspect inspectAll finished faceNeighbors innerEdgeNeighbors edgeNeighbors neighborsOf circumcenterOf twoPointInterpolation barycentricInterpolation weighTwo weighThree cellCorner faceCenter turnFrom sharesFrom sharesOf settled normalOf addNormal gradientFrom turn overPairs sumFrom locatedValue valueOn badBook entryRuling locateOn barycentricOn edgesOn sharesOn gradientOn add sub mul div le lt eq ne neg ofBits ofInt
+unfolding fileA verticesA edgesA facesA from eqs spacesOf digitsOf columns lastDigit fieldText valueOf candidate fieldOf lineOf tableOf lineText tableText offGrid crossOf dotOf norm2Of side lifted circle onOpenSegment countsRefused notBelow badVertex badHalfEdge badFace outOfRange linked linksBroken chartRefusal tablesRefusal countsOf headOf bodyOf loadOf chartIn chartText numbersRefusal writeRefusal writeOf locationOf S.none S.add S.countBelow inCircle shouldFlip inspect inspectAll finished faceNeighbors innerEdgeNeighbors edgeNeighbors neighborsOf circumcenterOf twoPointInterpolation barycentricInterpolation weighTwo weighThree cellCorner faceCenter turnFrom sharesFrom sharesOf settled normalOf addNormal gradientFrom turn overPairs sumFrom locatedValue valueOn badBook entryRuling locateOn barycentricOn edgesOn sharesOn gradientOn add sub mul div le lt eq ne neg ofBits ofInt
 rows =
     record {
       vertex = refl;
@@ -158,4 +179,8 @@ rows =
       batch-short = refl;
       batch-bad-book = refl;
       batch-refused = refl;
+      text = refl;
+      text-short = refl;
+      text-uneven = refl;
+      text-unfound = refl;
     }

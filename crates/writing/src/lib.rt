@@ -29,7 +29,13 @@ fn tables_refusal(vertices: &[i64], edges: &[i64], faces: &[i64]) -> u64
     let mut faceroom = chart::face_room();
     let b = edges.len();
     let f = faces.len();
-    checks::tables_refusal(vertices, edges, faces, &mut edgeroom[..b], &mut faceroom[..f])
+    checks::tables_refusal(
+        vertices,
+        edges,
+        faces,
+        &mut edgeroom[..b],
+        &mut faceroom[..f],
+    )
 }
 
 // 2, 4, 6 to 11, or 0.

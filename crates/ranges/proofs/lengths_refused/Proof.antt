@@ -70,7 +70,9 @@ returns-4 c =
     let a = c .before .before .before .before .args in
     c .counts-refused .ensures
     ∙ rw (
-      toZ-pos w64 {n = a .vertices} (cast-counts-refused s .sfits), toZ-pos w64 {n = a .edges} (cast-counts-refused-2 s .sfits), toZ-pos w64 {n = a .faces} (cast-counts-refused-3 s .sfits),
+      toZ-pos w64 {n = a .vertices} (cast-counts-refused s .sfits),
+      toZ-pos w64 {n = a .edges} (cast-counts-refused-2 s .sfits),
+      toZ-pos w64 {n = a .faces} (cast-counts-refused-3 s .sfits),
     ) refl
 
 pub lengths-refused-spec : {M : Type 1} → statement M
