@@ -9,11 +9,11 @@ ghost use Rattle.checks.specs.Checks.{told};
 ghost use Rattle.reading.specs.Reading.{countsOf, headOf, bodyOf, saidBody, loadOf};
 
 // How many bytes a line has: the first one (`headLength`), a vertex's or half-edge's, a face's.
-const HEAD_BYTES: usize = 25;
+pub const HEAD_BYTES: usize = 25;
 
-const ROW_BYTES: usize = 33;
+pub const ROW_BYTES: usize = 33;
 
-const FACE_BYTES: usize = 9;
+pub const FACE_BYTES: usize = 9;
 
 // The counts of a chart's first line, or the refusal that meets it.
 pub enum Head {

@@ -1,4 +1,7 @@
 // A chart's tables written back as chart text: refusals 2, 4 and 6 to 11 on the tables, then 18, then the text.
+use reading::FACE_BYTES;
+use reading::HEAD_BYTES;
+use reading::ROW_BYTES;
 ghost use mathlib.Core.Path.{_≡_};
 ghost use Prim.Native.Nat.{_*_};
 ghost use lib.ListN.{length};
@@ -6,13 +9,6 @@ ghost use Rattle.chart.specs.Tables.{rows};
 ghost use Rattle.ranges.specs.Passed.{Counted};
 ghost use Rattle.checks.specs.Checks.{tablesRefusal};
 ghost use Rattle.writing.specs.Writing.{savedLeft, numbersRefusal, writeOf};
-
-// How many bytes a line has: the first one (`headLength`), a vertex's or half-edge's, a face's.
-const HEAD_BYTES: usize = 25;
-
-const ROW_BYTES: usize = 33;
-
-const FACE_BYTES: usize = 9;
 
 // How long the text is that was written, or the refusal.
 pub enum WrittenChart {
