@@ -18,6 +18,7 @@ use Rattle.checks.specs.Checks.{chartRefusal, tablesRefusal}
 use Rattle.reading.specs.Reading.{countsOf, headOf, bodyOf, loadOf, chartIn}
 use Rattle.reading.specs.Text.{chartText}
 use Rattle.writing.specs.Writing.{numbersRefusal, writeRefusal, writeOf}
+use Rattle.writing.specs.Writing.Written.{wrote}
 use Rattle.locate.specs.Location.{locationOf}
 use Rattle.faceset.specs.Set as S
 use Rattle.flips.specs.Search.{inCircle, shouldFlip, inspect, inspectAll}
@@ -38,7 +39,7 @@ use Rattle.query.specs.Natural.{edgesOn, sharesOn}
 use Rattle.query.specs.Gradient.{gradientOn}
 use Rattle.triangle.specs.TriangleA.{fileA, verticesA, edgesA, facesA}
 use Rattle.slices.specs.Lent.{Left}
-use Rattle.slices.specs.Answers.{WeightsLeft}
+use Rattle.slices.specs.Answers.{WeightsLeft, lengthLeft}
 use Rattle.estivolh_c.specs.Queries.{locateCalled, barycentricCalled, EdgesLeft, edgesCalled, sharesCalled, gradientCalled, interpolateCalled}
 use Rattle.estivolh_c.specs.Writing.{TextLeft, writeCalled}
 use Rattle.estivolh_c.specs.Account.{chargeCalled, freshCalled, BatchLeft, batchCalled}
@@ -134,11 +135,17 @@ pub record Rows : Type 0 where
   pub batch-refused : batchCalled (numbers 3 7 4 2 5) [] bend (nines 1) ≡ bookIs 3 (numbers 3 7 4 2 5) (nines 1)
   -- `estivolh_write_chart` (02, CR 1): the text, bytes past it unchanged, and its length, 340
   pub text : writeCalled verticesA edgesN facesN (nines 342) (nines 2) ≡ textIs 0 (fileA ++ nines 2) (340 ∷ 9 ∷ [])
-  -- refused, it writes neither: a buffer of 339 bytes; 13 numbers of vertices
+  -- and with exactly so much room for both
+  pub text-exact : writeCalled verticesA edgesN facesN (nines 340) (nines 1) ≡ textIs 0 fileA (340 ∷ [])
+  -- the length of another text
+  pub text-length : lengthLeft (wrote 514) (nines 2) ≡ is 0 (514 ∷ 9 ∷ [])
+  -- refused, it writes neither: a buffer of 339 bytes; 13 numbers of vertices; no faces
   pub text-short : writeCalled verticesA edgesN facesN (nines 339) (nines 2) ≡ textIs 18 (nines 339) (nines 2)
   pub text-uneven : writeCalled (pos 0 ∷ verticesA) edgesN facesN (nines 342) (nines 2) ≡ textIs 2 (nines 342) (nines 2)
-  -- no room for the length, before all else
+  pub text-refused : writeCalled verticesA edgesN [] (nines 342) (nines 1) ≡ textIs 4 (nines 342) (nines 1)
+  -- no room for the length, before all else; of tables that nothing else meets, nothing is written either
   pub text-unfound : writeCalled verticesA edgesN [] (nines 342) [] ≡ textIs 2 (nines 342) []
+  pub text-unfound-alone : writeCalled verticesA edgesN facesN (nines 342) [] ≡ textIs 2 (nines 342) []
 
 pub rows : Rows
 unfolding fileA verticesA edgesA facesA from eqs spacesOf digitsOf columns lastDigit fieldText valueOf candidate fieldOf lineOf tableOf lineText tableText offGrid crossOf dotOf norm2Of side lifted circle onOpenSegment countsRefused notBelow badVertex badHalfEdge badFace outOfRange linked linksBroken chartRefusal tablesRefusal countsOf headOf bodyOf loadOf chartIn chartText numbersRefusal writeRefusal writeOf locationOf S.none S.add S.countBelow inCircle shouldFlip inspect inspectAll finished faceNeighbors innerEdgeNeighbors edgeNeighbors neighborsOf circumcenterOf twoPointInterpolation barycentricInterpolation weighTwo weighThree cellCorner faceCenter turnFrom sharesFrom sharesOf settled normalOf addNormal gradientFrom turn overPairs sumFrom locatedValue valueOn badBook entryRuling locateOn barycentricOn edgesOn sharesOn gradientOn add sub mul div le lt eq ne neg ofBits ofInt
@@ -180,7 +187,11 @@ rows =
       batch-bad-book = refl;
       batch-refused = refl;
       text = refl;
+      text-exact = refl;
+      text-length = refl;
       text-short = refl;
       text-uneven = refl;
+      text-refused = refl;
       text-unfound = refl;
+      text-unfound-alone = refl;
     }

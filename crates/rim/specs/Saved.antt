@@ -15,7 +15,7 @@ use Rattle.ranges.specs.Ranges.{countsRefused, notBelow, badVertex, badHalfEdge
 use Rattle.links.specs.Links.{linked, linksBroken}
 use Rattle.checks.specs.Checks.{chartRefusal, tablesRefusal}
 use Rattle.reading.specs.Reading.{countsOf, headOf, fileLength, bodyOf}
-use Rattle.reading.specs.Reading.Body.{body}
+use Rattle.reading.specs.Reading.Body.{body, malformed}
 use Rattle.reading.specs.Text.{chartText, numbersIn}
 use Rattle.writing.specs.Writing.{Written, Saved, numbersRefusal, writeRefusal, writeOf}
 use Rattle.writing.specs.Writing.Written.{wrote, turnedDown}
@@ -82,6 +82,9 @@ pub record Rows : Type 0 where
   -- a line of fields
   pub line : lineText (pos 3 ∷ negsuc 5 ∷ []) ≡ spaces 7 (figures (3 ∷ []) ++ spaces 6 (45 ∷ figures (6 ∷ []) ++ (10 ∷ [])))
   pub no-fields : lineText [] ≡ 10 ∷ []
+  -- as many lines as are asked for: no number past them, and no field where the numbers have ended
+  pub left-over : tableText 1 1 (pos 3 ∷ pos 4 ∷ []) ≡ spaces 7 (figures (3 ∷ []) ++ (10 ∷ []))
+  pub run-out : tableText 1 2 (pos 3 ∷ []) ≡ spaces 7 (figures (3 ∷ []) ++ (10 ∷ 10 ∷ []))
   -- "The bytes equal the file that was read": the tables of triangle A's file as numbers, and what is written of them into exactly as many bytes
   pub numbers : numbersIn fileA ≡ body verticesA edgesN facesN
   pub exact : writeOf verticesA edgesN facesN (sevens 340) ≡ saved (wrote 340) fileA
@@ -94,14 +97,28 @@ pub record Rows : Type 0 where
   pub below-nought : writeOf (set (set verticesA 0 (negsuc 9999)) 1 (negsuc 0)) edgesN facesN (sevens 340) ≡ saved (wrote 340) (put (put fileA (byte 0 2) (45 ∷ figures (1 ∷ 0 ∷ 0 ∷ 0 ∷ 0 ∷ []))) (byte 0 14) (45 ∷ figures (1 ∷ [])))
   -- 3 faces, no multiple of four, are no reason for 2
   pub three-faces : writeOf verticesQ edgesQ facesQ (sevens 514) ≡ saved (wrote 514) square
+  -- the square's room is another than triangle A's
+  pub short-square : writeOf verticesQ edgesQ facesQ (sevens 513) ≡ saved (turnedDown 18) (sevens 513)
+  -- the numbers of other files: of the square; of one that 9 meets; 3, 5 and 4 of line 1 (24 bytes; a plus before the 3; 2 vertices)
+  pub numbers-square : numbersIn square ≡ body verticesQ edgesQ facesQ
+  pub numbers-nine : numbersIn (put fileA (byte 2 13) (45 ∷ figures (1 ∷ 0 ∷ []))) ≡ body (set verticesA 9 (negsuc 9)) edgesN facesN
+  pub numbers-three : numbersIn (take 24 fileA) ≡ malformed 3
+  pub numbers-five : numbersIn (put fileA 6 (43 ∷ [])) ≡ malformed 5
+  pub numbers-four : numbersIn (put fileA 7 (figures (2 ∷ []))) ≡ malformed 4
   -- the longest text: 128 vertices, 756 half-edges, 252 faces; of the fewest, triangle A's
   pub longest : fileLength 128 756 252 ≡ 31465
   pub shortest : fileLength 3 6 2 ≡ 340
+  -- triangle A into a buffer that is longer than the longest text
+  pub far-past : writeOf verticesA edgesN facesN (sevens 31466) ≡ saved (wrote 340) (fileA ++ sevens 31126)
   -- "2, when the vertex or half-edge slice is no multiple of four": 13 and 11 numbers of vertices, 23 and 25 of half-edges
   pub vertices-more : writeOf (verticesA ++ (pos 0 ∷ [])) edgesN facesN (sevens 340) ≡ saved (turnedDown 2) (sevens 340)
   pub vertices-fewer : writeOf (take 11 verticesA) edgesN facesN (sevens 340) ≡ saved (turnedDown 2) (sevens 340)
   pub edges-fewer : writeOf verticesA (take 23 edgesN) facesN (sevens 340) ≡ saved (turnedDown 2) (sevens 340)
   pub edges-more : writeOf verticesA (edgesN ++ (pos 0 ∷ [])) facesN (sevens 340) ≡ saved (turnedDown 2) (sevens 340)
+  -- and even numbers of them: 14, 26, and both, 40 together
+  pub vertices-two-more : writeOf (verticesA ++ (pos 0 ∷ pos 0 ∷ [])) edgesN facesN (sevens 340) ≡ saved (turnedDown 2) (sevens 340)
+  pub edges-two-more : writeOf verticesA (edgesN ++ (pos 0 ∷ pos 0 ∷ [])) facesN (sevens 340) ≡ saved (turnedDown 2) (sevens 340)
+  pub both-two-more : writeOf (verticesA ++ (pos 0 ∷ pos 0 ∷ [])) (edgesN ++ (pos 0 ∷ pos 0 ∷ [])) facesN (sevens 340) ≡ saved (turnedDown 2) (sevens 340)
   -- 0 is a multiple of four: 4
   pub no-vertices : writeOf [] edgesN facesN (sevens 340) ≡ saved (turnedDown 4) (sevens 340)
   pub no-edges : writeOf verticesA [] facesN (sevens 340) ≡ saved (turnedDown 4) (sevens 340)
@@ -161,6 +178,8 @@ rows =
       no-column = refl;
       line = refl;
       no-fields = refl;
+      left-over = refl;
+      run-out = refl;
       numbers = refl;
       exact = refl;
       past = refl;
@@ -168,12 +187,22 @@ rows =
       no-room = refl;
       below-nought = refl;
       three-faces = refl;
+      short-square = refl;
+      numbers-square = refl;
+      numbers-nine = refl;
+      numbers-three = refl;
+      numbers-five = refl;
+      numbers-four = refl;
       longest = refl;
       shortest = refl;
+      far-past = refl;
       vertices-more = refl;
       vertices-fewer = refl;
       edges-fewer = refl;
       edges-more = refl;
+      vertices-two-more = refl;
+      edges-two-more = refl;
+      both-two-more = refl;
       no-vertices = refl;
       no-edges = refl;
       nothing = refl;
