@@ -8,6 +8,7 @@ use native.Mathlib.Omega.{arith}
 use lib.Dec.{eqb}
 use lib.IntN.{ℤ}
 use lib.ListN.{length, drop, length-map}
+use Rattle.whole.specs.Bools.{never}
 use Rattle.tables.specs.Table.{Cells, tableOf, lineBytes}
 use Rattle.tables.specs.Table.Cells.{cells, bad}
 use Rattle.tables.specs.Size.{table-length}
@@ -21,7 +22,7 @@ use Rattle.reading.specs.Reading.{headLength, headOf, fileLength, Body, three, 
 use Rattle.reading.specs.Reading.Body.{body, malformed}
 use Rattle.reading.specs.declared.Head.{Head}
 use Rattle.reading.specs.declared.Head.the-variants.{Refused, Counts}
-use Rattle.reading.specs.Laws.{never, head-counted, head-refusal, load-refusal, chart-body}
+use Rattle.reading.specs.Laws.{head-counted, head-refusal, load-refusal, chart-body}
 use Rattle.accepted.specs.Tests.{passed}
 use Rattle.accepted.specs.Accepted.{Accepted, accepted}
 

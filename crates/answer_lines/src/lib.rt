@@ -1,5 +1,4 @@
 // The lines that `answers` prints: a function for each kind.
-ghost use mathlib.Core.Path.{_≡_};
 use book::Book;
 use charge::Charged;
 use libc::STDOUT_FILENO;

@@ -2,7 +2,7 @@
 use Prim.Native.Nat.{ℕ, zero, suc, _+_, _-_, _/_, _%_, _^_, _≤_, _<_}
 use mathlib.Core.List.{List, [], _∷_, _++_, append-assoc}
 use mathlib.Core.Bool.{true, false}
-use mathlib.Core.Path.{_≡_, refl, ap, sym, _∙_}
+use mathlib.Core.Path.{_≡_, refl, ap, _∙_}
 use native.Mathlib.Omega.{arith}
 use lib.Dec.{T}
 use lib.IntN.{ℤ, pos, negsuc, natAbs, _-ℤ_}
@@ -12,6 +12,7 @@ use mir.Val.{SFits}
 use borrow.Author.Tests.{ltb-true, le-ltb}
 use lib.ListN.{length, drop, set, length-set}
 use lib.Seq.{drop-cons, getD-set-same, drop-set-lt}
+use Rattle.whole.specs.Bools.{never}
 use Rattle.text.specs.Field.{columns, lastDigit, fieldText}
 use Rattle.columns.specs.Column.{columnByte, signLeft, signOf}
 
@@ -71,7 +72,7 @@ text-signed w (negsuc n) = refl
 -- A number not below 0.
 pub size-nonneg : (z : ℤ) → ltZ z (pos 0) ≡ false → T (nonNeg z)
 size-nonneg (pos n) e = tt
-size-nonneg (negsuc n) e = let z : _≡_ {A = ℕ} 0 1 = cc in let f : ⊥ = omega arith in absurd f
+size-nonneg (negsuc n) e = never (cc)
 
 -- How far a number below 0 is from one below it.
 pub from-minus-one : (z : ℤ) → ltZ z (pos 0) ≡ true → negsuc 0 -ℤ z ≡ pos (natAbs z - 1)
@@ -90,4 +91,4 @@ sign-minus (negsuc n) e = refl
 
 pub sign-space : (z : ℤ) → ltZ z (pos 0) ≡ false → 32 ≡ signOf z
 sign-space (pos n) e = refl
-sign-space (negsuc n) e = let z : _≡_ {A = ℕ} 0 1 = cc in let f : ⊥ = omega arith in absurd f
+sign-space (negsuc n) e = never (cc)

@@ -10,8 +10,8 @@ use lib.IntN.{ℤ, pos, negsuc, natAbs}
 use lib.ListN.{length, getD}
 use Rattle.whole.specs.Bound.{Within, up-to}
 use Rattle.text.specs.Field.{fieldWidth}
-use Rattle.text.specs.Written.{Fits}
-use Rattle.tables.specs.Written.{AllFit, all-fit}
+use Rattle.text.specs.RoundTrip.{Fits}
+use Rattle.tables.specs.RoundTrip.{AllFit, all-fit}
 use Rattle.geometry.specs.Plane.{on-grid}
 use Rattle.chart.specs.Limits.{MostVertices, MostHalfEdges, MostFaces}
 use Rattle.chart.specs.Tables.{rows, placeOf, valueOf}

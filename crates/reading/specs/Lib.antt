@@ -1,5 +1,5 @@
 pub mod Reading
 pub mod Laws
 pub mod Text
-pub mod Written
+pub mod RoundTrip
 pub mod Fitting

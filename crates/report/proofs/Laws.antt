@@ -1,13 +1,12 @@
 -- Laws of specs/: a column and a line at a time.
-use Prim.Native.Nat.{ℕ, zero, suc, _+_, _-_, _/_, _%_, _≤_, _<_}
+use Prim.Native.Nat.{ℕ, suc, _+_, _-_, _<_}
 use mathlib.Core.List.{List, [], _∷_, _++_, append-assoc, append-nil}
 use mathlib.Core.Path.{_≡_, refl, ap, sym, _∙_}
 use native.Mathlib.Omega.{arith}
 use native.Mathlib.Nat.{add-zero}
 use native.Mathlib.Numerals.{add-one}
-use lib.ListN.{length, take, drop, getD, set, length-set}
-use lib.Seq.{drop-cons, getD-set-same, drop-set-lt, take-suc, length-take-le}
-use Rattle.text.specs.Field.{columns, lastDigit, fieldText}
+use lib.ListN.{length, take, getD}
+use lib.Seq.{take-suc, length-take-le}
 use Rattle.report.specs.Lines.{answerLine, answerLines, sectionLine, sectionLines}
 
 -- One answer more at the end.

@@ -3,11 +3,13 @@
 use mathlib.Core.Path.{_≡_, refl}
 use mathlib.Core.List.{List, [], _∷_, _++_, map}
 use Prim.Native.Nat.{ℕ}
+use native.Mathlib.Omega.{arith}
 use lib.IntN.{ℤ, pos, negsuc}
 use lib.ListN.{take, set, replicate}
 use Rattle.whole.specs.First.{from}
 use Rattle.text.specs.Bytes.{eqs}
 use Rattle.text.specs.Field.{spacesOf, digitsOf, columns, lastDigit, fieldText, valueOf, candidate, fieldOf}
+use Rattle.text.specs.RoundTrip.{Fits}
 use Rattle.tables.specs.Table.{lineOf, tableOf}
 use Rattle.tables.specs.Text.{lineText, tableText}
 use Rattle.geometry.specs.Plane.{offGrid, crossOf, norm2Of, side, lifted, circle}
@@ -73,6 +75,8 @@ pub record Rows : Type 0 where
   -- the most and the least that 8 columns hold; of a number that does not fit, its last digits and no sign
   pub most : fieldText 8 (pos 99999999) ≡ replicate 8 57
   pub least : fieldText 8 (negsuc 9999998) ≡ 45 ∷ replicate 7 57
+  pub most-fits : Fits 8 (pos 99999999)
+  pub least-fits : Fits 8 (negsuc 9999998)
   pub above : fieldText 8 (pos 123456789) ≡ figures (2 ∷ 3 ∷ 4 ∷ 5 ∷ 6 ∷ 7 ∷ 8 ∷ 9 ∷ [])
   pub below : fieldText 8 (negsuc 12345677) ≡ figures (1 ∷ 2 ∷ 3 ∷ 4 ∷ 5 ∷ 6 ∷ 7 ∷ 8 ∷ [])
   -- a field of another width
@@ -171,6 +175,8 @@ rows =
       x-least = refl;
       most = refl;
       least = refl;
+      most-fits = (omega arith, omega arith);
+      least-fits = (omega arith, omega arith);
       above = refl;
       below = refl;
       wider = refl;

@@ -1,18 +1,17 @@
 -- A field and a line at a time: what is put and what remains, one after the other, are the whole.
-use Prim.Native.Nat.{ℕ, zero, suc, _+_, _-_, _*_, _≤_, _<_}
+use Prim.Native.Nat.{ℕ, suc, _+_, _-_, _*_, _≤_, _<_}
 use mathlib.Core.List.{List, [], _∷_, _++_}
 use mathlib.Core.Path.{_≡_, refl, ap, sym, _∙_}
 use native.Mathlib.Omega.{arith}
-use native.Mathlib.Nat.{mul-suc}
 use native.Mathlib.Numerals.{add-one}
 use lib.IntN.{ℤ, pos}
 use lib.ListN.{length, take, drop, getD, length-drop}
 use lib.Seq.{drop-cons, drop-drop, drop-length, length-take-le}
 use Rattle.text.specs.Field.{fieldWidth, fieldText}
-use Rattle.text.specs.Written.{field-length}
+use Rattle.text.specs.RoundTrip.{field-length}
 use Rattle.tables.specs.Table.{lineBytes}
 use Rattle.tables.specs.Text.{lineText, tableText}
-use Rattle.tables.specs.Written.{line-bytes, table-bytes}
+use Rattle.tables.specs.RoundTrip.{line-bytes, table-bytes}
 use Rattle.chart.specs.Tables.{rows}
 use Rattle.reading.specs.Reading.{headLength, fileLength}
 use Rattle.reading.specs.Text.{chartText}
@@ -34,10 +33,6 @@ line-next row j old mid at end h room e p =
 pub line-ends : (row : List ℤ) (j : ℕ) → j ≡ length row → 10 ∷ [] ≡ lineText (drop j row)
 unfolding lineText
 line-ends row j e = rw (e, drop-length row) refl
-
--- a line less to go
-pub row-less : (w n i : ℕ) → i < n → w * (n - i) ≡ w + w * (n - (i + 1))
-row-less w n i h = let e : n - i ≡ suc (n - (i + 1)) = omega arith in ap (λ (k : ℕ). w * k) e ∙ mul-suc w (n - (i + 1)) ∙ omega arith
 
 -- the part of a table that a line is
 pub part-is : (cells : List ℤ) (from w : ℕ) → take (from + w - from) (drop from cells) ≡ take w (drop from cells)

@@ -1,11 +1,11 @@
 -- Laws of the definitions of specs/Table.antt, a field and a line at a time.
-use Prim.Native.Nat.{ℕ, suc, _+_, _-_, _*_, _≤_, _<_}
+use Prim.Native.Nat.{ℕ, suc, _+_, _-_, _≤_, _<_}
 use mathlib.Core.List.{List, [], _∷_, _++_, append-assoc, append-nil}
 use mathlib.Core.Bool.{Bool, true, false}
 use mathlib.Core.Path.{_≡_, refl, ap, sym, _∙_}
 use native.Mathlib.Omega.{arith}
 use native.Mathlib.Numerals.{add-one}
-use native.Mathlib.Nat.{mul-suc, add-zero}
+use native.Mathlib.Nat.{add-zero}
 use lib.ListN.{length, take, drop, set, getD, length-append, length-take, length-drop}
 use borrow.Rule.Slice.PartMut.{putMid, postOf}
 use lib.Seq.{drop-drop, take-suc-set, getD-drop, take-length, take-at}
@@ -83,10 +83,6 @@ table-by w n k e s = rw e refl
 table-none : (w : ℕ) (s : List ℕ) → tableOf w 0 s ≡ cells []
 unfolding tableOf
 table-none w s = refl
-
--- What is left of a product when one row is taken.
-pub row-less : (k n i : ℕ) → i < n → k * (n - i) ≡ k * (n - (i + 1)) + k
-row-less k n i h = let e : n - i ≡ suc (n - (i + 1)) = omega arith in rw e (mul-suc k (n - (i + 1)))
 
 module _ (text : List ℕ) (done : List ℤ) (w n at pos i : ℕ) (hi : i < n) (h : tableOf w n (drop at text) ≡ before done (tableOf w (n - i) (drop pos text))) where
   -- The next line of a table, after i lines.

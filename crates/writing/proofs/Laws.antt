@@ -1,46 +1,18 @@
--- Laws of specs/: the refusals of the tables, one after the other.
-use mathlib.Core.Bool.{true, false}
+-- Laws of specs/: what the check tells, and the text put.
 use mathlib.Core.List.{List, _++_}
-use mathlib.Core.Path.{_≡_, refl, sym, ap, _∙_}
-use Prim.Native.Nat.{ℕ, _+_, _%_, _≤_}
+use mathlib.Core.Path.{_≡_, sym, ap, _∙_}
+use Prim.Native.Nat.{ℕ, _+_, _≤_}
 use native.Mathlib.Omega.{arith}
-use lib.IntN.{ℤ, pos}
+use lib.IntN.{ℤ}
 use lib.ListN.{length, drop}
-use borrow.Author.Tests.{eq-eqb, ne-eqb}
-use Rattle.chart.specs.Tables.{rows}
-use Rattle.ranges.specs.Ranges.{countsRefused}
-use Rattle.checks.specs.Checks.{tablesRefusal, told}
+use Rattle.checks.specs.Checks.{told}
 use Rattle.reading.specs.Reading.{refusalOf}
 use Rattle.reading.specs.Laws.{told-refusal}
 use Rattle.reading.specs.Text.{chartText}
 use Rattle.columns.specs.Laid.{laid}
 use Rattle.writing.specs.declared.WrittenChart.the-variants.{Length}
-use Rattle.writing.specs.Writing.{savedLeft, uneven, numbersRefusal, writeOf}
+use Rattle.writing.specs.Writing.{savedLeft, numbersRefusal, writeOf}
 use Rattle.writing.specs.Laws.{written-room}
-
-module _ (vs es fs : List ℤ) where
-  -- 2, by the vertices and by the half-edges
-  pub vertices-two : (length vs % 4 ≡ 0 → ⊥) → 2 ≡ numbersRefusal vs es fs
-  unfolding numbersRefusal
-  vertices-two n = rw (ne-eqb (length vs % 4) 0 n) refl
-
-  pub edges-two : length vs % 4 ≡ 0 → (length es % 4 ≡ 0 → ⊥) → 2 ≡ numbersRefusal vs es fs
-  unfolding numbersRefusal
-  edges-two e n = rw (eq-eqb (length vs % 4) 0 e, ne-eqb (length es % 4) 0 n) refl
-
-  -- neither
-  pub even-tables : length vs % 4 ≡ 0 → length es % 4 ≡ 0 → uneven vs es ≡ false
-  even-tables e d = rw (eq-eqb (length vs % 4) 0 e, eq-eqb (length es % 4) 0 d) refl
-
-  -- 4
-  pub counts-four : uneven vs es ≡ false → countsRefused (pos (rows vs)) (pos (rows es)) (pos (length fs)) ≡ true → 4 ≡ numbersRefusal vs es fs
-  unfolding numbersRefusal
-  counts-four e h = rw (e, h) refl
-
-  -- 6 to 11
-  pub later-refusal : uneven vs es ≡ false → countsRefused (pos (rows vs)) (pos (rows es)) (pos (length fs)) ≡ false → tablesRefusal vs es fs ≡ numbersRefusal vs es fs
-  unfolding numbersRefusal
-  later-refusal e h = rw (e, h) refl
 
 -- the refusal of two tellings that are one
 pub told-same : (m n : ℕ) (vs ws : List ℤ) (es fs gs hs : List ℕ) → told m vs es fs ≡ told n ws gs hs → n ≡ m

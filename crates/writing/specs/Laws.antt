@@ -7,16 +7,40 @@ use native.Mathlib.Omega.{arith}
 use lib.Dec.{ltb, eqb}
 use lib.IntN.{ℤ, pos}
 use lib.ListN.{length, drop}
-use borrow.Author.Tests.{lt-ltb, ltb-false, eqb-true, not-false, le-ltb, eq-eqb}
-use Rattle.whole.specs.Bools.{or-false}
+use borrow.Author.Tests.{ne-eqb, lt-ltb, ltb-false, eqb-true, not-false, le-ltb, eq-eqb}
+use Rattle.whole.specs.Bools.{or-false, never}
 use Rattle.chart.specs.Tables.{rows}
 use Rattle.ranges.specs.Ranges.{countsRefused, outOfRange}
 use Rattle.ranges.specs.Passed.{Counted, counted}
 use Rattle.checks.specs.Checks.{tablesRefusal}
-use Rattle.reading.specs.Laws.{never}
 use Rattle.reading.specs.Text.{chartText}
 use Rattle.writing.specs.Writing.{uneven, numbersRefusal, roomRefusal, writeRefusal, savedBy, writeOf}
 use Rattle.writing.specs.Writing.Written.{wrote, turnedDown}
+
+-- ---- the refusals of the tables, one after the other
+module _ (vs es fs : List ℤ) where
+  -- 2, by the vertices and by the half-edges
+  pub vertices-two : (length vs % 4 ≡ 0 → ⊥) → 2 ≡ numbersRefusal vs es fs
+  unfolding numbersRefusal
+  vertices-two n = rw (ne-eqb (length vs % 4) 0 n) refl
+
+  pub edges-two : length vs % 4 ≡ 0 → (length es % 4 ≡ 0 → ⊥) → 2 ≡ numbersRefusal vs es fs
+  unfolding numbersRefusal
+  edges-two e n = rw (eq-eqb (length vs % 4) 0 e, ne-eqb (length es % 4) 0 n) refl
+
+  -- 4
+  pub counts-four : uneven vs es ≡ false → countsRefused (pos (rows vs)) (pos (rows es)) (pos (length fs)) ≡ true → 4 ≡ numbersRefusal vs es fs
+  unfolding numbersRefusal
+  counts-four e h = rw (e, h) refl
+
+  -- 6 to 11
+  pub later-refusal : uneven vs es ≡ false → countsRefused (pos (rows vs)) (pos (rows es)) (pos (length fs)) ≡ false → tablesRefusal vs es fs ≡ numbersRefusal vs es fs
+  unfolding numbersRefusal
+  later-refusal e h = rw (e, h) refl
+
+-- 2 does not meet slices that are multiples of four
+pub even-slices : (vs es : List ℤ) → length vs % 4 ≡ 0 → length es % 4 ≡ 0 → uneven vs es ≡ false
+even-slices vs es e d = rw (eq-eqb (length vs % 4) 0 e, eq-eqb (length es % 4) 0 d) refl
 
 -- ---- tables that none of 2, 4 and 6 to 11 meets
 -- a choice that is 0 where its first number is not 0 is its second
@@ -69,19 +93,21 @@ module _ (vs es : List ℤ) (h : uneven vs es ≡ false) where
   pub edge-rows : length es ≡ 4 * rows es
   edge-rows = whole-rows (length es) (eqb-true (length es % 4) 0 (not-false (eqb (length es % 4) 0) (parts .1)))
 
--- 2 does not meet tables of whole rows
+-- and slices of whole rows are multiples of four
 pub even-rows : (vs es : List ℤ) → length vs ≡ 4 * rows vs → length es ≡ 4 * rows es → uneven vs es ≡ false
-even-rows vs es a b =
-    let x : length vs % 4 ≡ 0 = omega arith in
-    let y : length es % 4 ≡ 0 = omega arith in
-    rw (eq-eqb (length vs % 4) 0 x, eq-eqb (length es % 4) 0 y)
-
--- tables that none of 2, 4 and 6 to 11 meets, from each of these
-pub numbers-pass : (vs es fs : List ℤ) → uneven vs es ≡ false → countsRefused (pos (rows vs)) (pos (rows es)) (pos (length fs)) ≡ false → tablesRefusal vs es fs ≡ 0 → numbersRefusal vs es fs ≡ 0
-unfolding numbersRefusal
-numbers-pass vs es fs a b c = rw (a, b, c)
+even-rows vs es a b = even-slices vs es (omega arith) (omega arith)
 
 -- ---- the call
+-- a refusal of the tables comes before the room
+refused-by : (r : ℕ) (text lent : List ℕ) → (r ≡ 0 → ⊥) → savedBy (roomRefusal r text lent) text lent ≡ record { answer = turnedDown r; buffer = lent }
+refused-by zero text lent n = absurd (n refl)
+refused-by (suc r) text lent n = refl
+
+-- tables that something meets
+pub written-refused : (vs es fs : List ℤ) (lent : List ℕ) → (numbersRefusal vs es fs ≡ 0 → ⊥) → writeOf vs es fs lent ≡ record { answer = turnedDown (numbersRefusal vs es fs); buffer = lent }
+unfolding writeOf writeRefusal
+written-refused vs es fs lent n = refused-by (numbersRefusal vs es fs) (chartText vs es fs) lent n
+
 -- what a call that was not refused had been lent, and what it left
 pub record Done (vs es fs : List ℤ) (lent : List ℕ) (n : ℕ) : Type 0 where
   pub none : numbersRefusal vs es fs ≡ 0
@@ -115,15 +141,6 @@ written-room vs es fs lent h l = rw (h, le-ltb (length lent) (length (chartText 
 pub written-short : (vs es fs : List ℤ) (lent : List ℕ) → numbersRefusal vs es fs ≡ 0 → length lent < length (chartText vs es fs) → writeOf vs es fs lent ≡ record { answer = turnedDown 18; buffer = lent }
 unfolding writeOf writeRefusal
 written-short vs es fs lent h l = rw (h, lt-ltb (length lent) (length (chartText vs es fs)) l)
-
-refused-by : (r : ℕ) (text lent : List ℕ) → (r ≡ 0 → ⊥) → savedBy (roomRefusal r text lent) text lent ≡ record { answer = turnedDown r; buffer = lent }
-refused-by zero text lent n = absurd (n refl)
-refused-by (suc r) text lent n = refl
-
--- tables that something meets
-pub written-refused : (vs es fs : List ℤ) (lent : List ℕ) → (numbersRefusal vs es fs ≡ 0 → ⊥) → writeOf vs es fs lent ≡ record { answer = turnedDown (numbersRefusal vs es fs); buffer = lent }
-unfolding writeOf writeRefusal
-written-refused vs es fs lent n = refused-by (numbersRefusal vs es fs) (chartText vs es fs) lent n
 
 -- a refused call changes no byte
 pub refused-nothing : (vs es fs : List ℤ) (lent : List ℕ) (n : ℕ) → writeOf vs es fs lent .answer ≡ turnedDown n → writeOf vs es fs lent .buffer ≡ lent

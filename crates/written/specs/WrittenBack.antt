@@ -9,8 +9,8 @@ use lib.ListN.{length, take, drop}
 use lib.Seq.{take-at}
 use Rattle.text.specs.Field.{fieldOf, fieldText}
 use Rattle.text.specs.declared.Field.the-variants.{Number}
-use Rattle.text.specs.Written.{Fits}
-use Rattle.text.specs.Written as F
+use Rattle.text.specs.RoundTrip.{Fits}
+use Rattle.text.specs.RoundTrip as F
 use Rattle.chart.specs.Limits.{MostVertices, MostHalfEdges, MostFaces}
 use Rattle.chart.specs.Tables.{rows, unsignedAll}
 use Rattle.ranges.specs.Passed.{Counted, counts-pass}
@@ -22,11 +22,11 @@ use Rattle.reading.specs.Reading.{headOf, fileLength, Body, bodyOf, loadBody, l
 use Rattle.reading.specs.Reading.Body.{body, malformed}
 use Rattle.reading.specs.Laws.{told-refusal, told-zero, head-refusal, load-refusal}
 use Rattle.reading.specs.Text.{chartText, numbersAfter, numbersIn}
-use Rattle.reading.specs.Written.{text-length, file-is-text, text-is-file, chart-numbers}
+use Rattle.reading.specs.RoundTrip.{text-length, file-is-text, text-is-file, chart-numbers}
 use Rattle.reading.specs.Fitting.{tables-fit}
 use Rattle.writing.specs.Writing.{numbersRefusal, writeOf}
 use Rattle.writing.specs.Writing.Written.{wrote, turnedDown}
-use Rattle.writing.specs.Laws.{uneven-none, counts-in, tables-none, range-none, vertex-rows, edge-rows, even-rows, numbers-pass, wrote-done, written-room, refused-nothing}
+use Rattle.writing.specs.Laws.{uneven-none, counts-in, tables-none, range-none, vertex-rows, edge-rows, even-rows, later-refusal, wrote-done, written-room, refused-nothing}
 
 -- the tables that a file holds, as numbers in file order
 pub record Numbers (s : List ℕ) : Type 0 where
@@ -92,8 +92,8 @@ accepted-tables s vs es fs h q =
 accepted-numbers : (s : List ℕ) (vs es fs : List ℤ) → chartRefusalOf s ≡ 0 → numbersIn s ≡ body vs es fs → numbersRefusal vs es fs ≡ 0
 accepted-numbers s vs es fs h q =
     let t = file-is-text s vs es fs q in
-    numbers-pass vs es fs (even-rows vs es (t .vertex-rows) (t .edge-rows)) (counts-pass (rows vs) (rows es) (length fs) (t .counts))
-    (accepted-tables s vs es fs h q)
+    sym (later-refusal vs es fs (even-rows vs es (t .vertex-rows) (t .edge-rows)) (counts-pass (rows vs) (rows es) (length fs) (t .counts)))
+    ∙ accepted-tables s vs es fs h q
 
 -- a text that is equal, in a record of the call
 written-as : (vs es fs : List ℤ) (lent t s : List ℕ) → t ≡ s → writeOf vs es fs lent ≡ record { answer = wrote (length t); buffer = t ++ drop (length t) lent } → writeOf vs es fs lent ≡ record { answer = wrote (length s); buffer = s ++ drop (length s) lent }

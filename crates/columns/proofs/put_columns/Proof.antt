@@ -5,7 +5,7 @@ use native.Mathlib.Omega.{arith}
 use borrow.Rule.Slice.PartMut.{post-is}
 use lib.ListN.{length, take, drop, length-take, length-drop}
 use Rattle.text.specs.Field.{lastDigit}
-use Rattle.text.specs.Written.{signed-length}
+use Rattle.text.specs.RoundTrip.{signed-length}
 use borrow.Author.Needs.{needs}
 use Rattle.columns.proofs.put_columns.Statement.{statement}
 use Rattle.columns.proofs.put_columns.Tie as tie

@@ -1,6 +1,4 @@
 -- `columns::sign` meets its contract.
-use lib.IntN.{pos}
-use mathlib.Core.Path.{_≡_}
 use mir.Facts.{toZ-ofZ}
 use mir.Syntax.{w64}
 use Rattle.columns.proofs.Laws.{sign-minus, sign-space}

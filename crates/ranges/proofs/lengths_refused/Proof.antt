@@ -1,12 +1,13 @@
 -- `ranges::lengths_refused` meets its contract: a count past its most is refused, and one that is not keeps its value as a signed number.
 use mathlib.Core.Path.{_≡_, refl, sym, _∙_}
-use mathlib.Core.Bool.{Bool, true, false, _||_, false≢true}
+use mathlib.Core.Bool.{true}
 use Prim.Native.Nat.{ℕ, _<_}
 use lib.Dec.{ltb}
 use lib.IntN.{ℤ, pos}
 use mir.Syntax.{w64}
 use mir.Facts.{toZ-pos}
 use borrow.Author.Tests.{lt-ltb}
+use Rattle.whole.specs.Bools.{or-first, or-second}
 use Rattle.whole.specs.Bound.{outside}
 use Rattle.chart.specs.Limits.{LeastVertices, MostVertices, LeastHalfEdges, MostHalfEdges, LeastFaces, MostFaces}
 use Rattle.ranges.specs.Ranges.{countsRefused, odd}
@@ -14,34 +15,25 @@ use borrow.Author.Needs.{needs}
 use Rattle.ranges.proofs.lengths_refused.Statement.{statement}
 use Rattle.ranges.proofs.lengths_refused.Tie as tie
 
--- either of two
-first : (a b : Bool) → a ≡ true → (a || b) ≡ true
-first true b e = refl
-first false b e = absurd (false≢true e)
-
-second : (a b : Bool) → b ≡ true → (a || b) ≡ true
-second true b e = refl
-second false b e = e
-
 past : (lo hi n : ℕ) → hi < n → outside (pos lo) (pos hi) (pos n) ≡ true
-past lo hi n h = second (ltb n lo) (ltb hi n) (lt-ltb hi n h)
+past lo hi n h = or-second (ltb n lo) (ltb hi n) (lt-ltb hi n h)
 
 -- a count past its most
 vertices-past : (v : ℕ) (e f : ℤ) → MostVertices < v → countsRefused (pos v) e f ≡ true
 unfolding countsRefused
-vertices-past v e f h = first (outside (pos LeastVertices) (pos MostVertices) (pos v)) _ (past LeastVertices MostVertices v h)
+vertices-past v e f h = or-first (outside (pos LeastVertices) (pos MostVertices) (pos v)) _ (past LeastVertices MostVertices v h)
 
 edges-past : (v : ℤ) (e : ℕ) (f : ℤ) → MostHalfEdges < e → countsRefused v (pos e) f ≡ true
 unfolding countsRefused
 edges-past v e f h =
-    second (outside (pos LeastVertices) (pos MostVertices) v) _
-    (second (odd (pos e)) _ (first (outside (pos LeastHalfEdges) (pos MostHalfEdges) (pos e)) _ (past LeastHalfEdges MostHalfEdges e h)))
+    or-second (outside (pos LeastVertices) (pos MostVertices) v) _
+    (or-second (odd (pos e)) _ (or-first (outside (pos LeastHalfEdges) (pos MostHalfEdges) (pos e)) _ (past LeastHalfEdges MostHalfEdges e h)))
 
 faces-past : (v e : ℤ) (f : ℕ) → MostFaces < f → countsRefused v e (pos f) ≡ true
 unfolding countsRefused
 faces-past v e f h =
-    second (outside (pos LeastVertices) (pos MostVertices) v) _
-    (second (odd e) _ (second (outside (pos LeastHalfEdges) (pos MostHalfEdges) e) _ (past LeastFaces MostFaces f h)))
+    or-second (outside (pos LeastVertices) (pos MostVertices) v) _
+    (or-second (odd e) _ (or-second (outside (pos LeastHalfEdges) (pos MostHalfEdges) e) _ (past LeastFaces MostFaces f h)))
 
 returns : tie.Need-returns
 returns c = let a = c .before .args in sym (vertices-past (a .vertices) (pos (a .edges)) (pos (a .faces)) (c .if1 .taken))

@@ -5,7 +5,7 @@ use lib.IntN.{pos}
 use Rattle.columns.specs.Printed.{lineFeed, printed}
 use Rattle.report.specs.Lines.{wideField, retiredLine}
 use Rattle.columns.specs.Laid.{then-laid}
-use Rattle.text.specs.Written.{field-length}
+use Rattle.text.specs.RoundTrip.{field-length}
 use borrow.Author.Needs.{needs}
 use Rattle.report.proofs.put_retired.Statement.{statement}
 use Rattle.report.proofs.put_retired.Tie as tie

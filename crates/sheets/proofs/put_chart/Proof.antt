@@ -1,6 +1,6 @@
 -- `sheets::put_chart` meets its contract: line 1, then the three tables, one after the other.
 use mathlib.Core.List.{[], _∷_}
-use mathlib.Core.Path.{_≡_, refl, sym, _∙_}
+use mathlib.Core.Path.{_≡_, _∙_}
 use native.Mathlib.Omega.{arith}
 use lib.IntN.{pos}
 use lib.ListN.{length}
@@ -8,7 +8,7 @@ use mir.Facts.{toZ-pos}
 use mir.Syntax.{w64}
 use Rattle.tables.specs.Text.{lineText}
 use Rattle.chart.specs.Tables.{rows}
-use Rattle.reading.specs.Written.{text-length}
+use Rattle.reading.specs.RoundTrip.{text-length}
 use Rattle.columns.specs.Laid.{laid}
 use Rattle.sheets.proofs.Laws.{chart-put}
 use borrow.Author.Needs.{needs}

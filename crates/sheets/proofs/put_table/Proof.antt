@@ -6,9 +6,10 @@ use native.Mathlib.Omega.{arith}
 use native.Mathlib.Nat.{sub-zero, sub-self, mul-zero, zero-add}
 use lib.ListN.{length, take, drop}
 use Rattle.tables.specs.Table.{lineBytes}
+use Rattle.tables.specs.Size.{row-less}
 use Rattle.tables.specs.Text.{lineText, tableText}
 use Rattle.columns.specs.Laid.{laid, laid-none}
-use Rattle.sheets.proofs.Laws.{row-less, part-is, part-long, table-next, table-ends}
+use Rattle.sheets.proofs.Laws.{part-is, part-long, table-next, table-ends}
 use borrow.Author.Needs.{needs}
 use Rattle.sheets.proofs.put_table.Statement.{statement}
 use Rattle.sheets.proofs.put_table.Tie as tie

@@ -10,7 +10,8 @@ use borrow.Author.Tests.{not-true, not-false}
 use lib.ListN.{length, take, drop}
 use Rattle.tables.specs.Table.{tableOf, lineBytes, before}
 use Rattle.tables.specs.Table.Cells.{cells}
-use Rattle.tables.proofs.Laws.{before-nil, row-less, table-again, table-fails, table-ends, part-length, part-back, part-line}
+use Rattle.tables.specs.Size.{row-less}
+use Rattle.tables.proofs.Laws.{before-nil, table-again, table-fails, table-ends, part-length, part-back, part-line}
 use borrow.Author.Needs.{needs}
 use Rattle.tables.proofs.table.Statement.{statement}
 use Rattle.tables.proofs.table.Tie as tie

@@ -1,9 +1,7 @@
 -- `writing::numbers_refusal` meets its contract: first hit answers.
 use mathlib.Core.Path.{sym, _∙_}
-use native.Mathlib.Omega.{arith}
 use Rattle.ranges.specs.Passed.{counted}
-use Rattle.writing.specs.Laws.{edge-rows}
-use Rattle.writing.proofs.Laws.{vertices-two, edges-two, even-tables, counts-four, later-refusal}
+use Rattle.writing.specs.Laws.{vertices-two, edges-two, even-slices, counts-four, later-refusal, edge-rows}
 use borrow.Author.Needs.{needs}
 use Rattle.writing.proofs.numbers_refusal.Statement.{statement}
 use Rattle.writing.proofs.numbers_refusal.Tie as tie
@@ -27,7 +25,7 @@ returns-3 c =
     let a = s .before .args in
     let vs = a .vertices .now in
     let es = a .edges .now in
-    counts-four vs es (a .faces .now) (even-tables vs es (a .faces .now) (s .if1 .left) (c .before .before .if2 .left)) (sym (c .before .lengths-refused .ensures) ∙ c .if3 .taken)
+    counts-four vs es (a .faces .now) (even-slices vs es (s .if1 .left) (c .before .before .if2 .left)) (sym (c .before .lengths-refused .ensures) ∙ c .if3 .taken)
 
 tables-refusal-requires : tie.Need-tables-refusal-requires
 tables-refusal-requires c κs =
@@ -35,7 +33,7 @@ tables-refusal-requires c κs =
     let a = s .before .args in
     let vs = a .vertices .now in
     let es = a .edges .now in
-    (counted _ _ _ (sym (c .before .lengths-refused .ensures) ∙ c .if3 .left), edge-rows vs es (even-tables vs es (a .faces .now) (s .if1 .left) (c .before .before .if2 .left)))
+    (counted _ _ _ (sym (c .before .lengths-refused .ensures) ∙ c .if3 .left), edge-rows vs es (even-slices vs es (s .if1 .left) (c .before .before .if2 .left)))
 
 returns-4 : tie.Need-returns-4
 returns-4 c =
@@ -45,7 +43,7 @@ returns-4 c =
     let vs = a .vertices .now in
     let es = a .edges .now in
     let fs = a .faces .now in
-    c .tables-refusal .ensures ∙ later-refusal vs es fs (even-tables vs es fs (s .if1 .left) (e .before .before .if2 .left)) (sym (e .before .lengths-refused .ensures) ∙ e .if3 .left)
+    c .tables-refusal .ensures ∙ later-refusal vs es fs (even-slices vs es (s .if1 .left) (e .before .before .if2 .left)) (sym (e .before .lengths-refused .ensures) ∙ e .if3 .left)
 
 pub numbers-refusal-spec : {M : Type 1} → statement M
 numbers-refusal-spec =

@@ -1,8 +1,7 @@
 -- `writing::put_text` meets its contract: the length that the counts give is the text's.
-use mathlib.Core.Path.{_≡_, refl, sym, ap, _∙_}
+use mathlib.Core.Path.{sym}
 use native.Mathlib.Omega.{arith}
-use lib.ListN.{length}
-use Rattle.reading.specs.Written.{text-length}
+use Rattle.reading.specs.RoundTrip.{text-length}
 use Rattle.writing.specs.Laws.{uneven-none, counts-in, vertex-rows, edge-rows, written-short}
 use Rattle.writing.proofs.Laws.{saved-put}
 use borrow.Author.Needs.{needs}

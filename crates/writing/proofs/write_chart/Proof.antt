@@ -1,5 +1,5 @@
 -- `writing::write_chart` meets its contract: what meets the tables comes before the room.
-use mathlib.Core.Path.{_≡_, refl, sym, _∙_}
+use mathlib.Core.Path.{sym, _∙_}
 use Rattle.writing.specs.Laws.{written-refused}
 use borrow.Author.Needs.{needs}
 use Rattle.writing.proofs.write_chart.Statement.{statement}

@@ -11,18 +11,15 @@ use lib.Seq.{take-at, drop-at, length-take-le, drop-drop}
 use lib.Dec.{eqb}
 use lib.IntN.{ℤ, pos}
 use borrow.Author.Tests.{eqb-true}
+use Rattle.whole.specs.Bools.{never}
 use Rattle.text.specs.Field.{fieldOf, fieldText, fieldWidth}
 use Rattle.text.specs.declared.Field.{Field}
 use Rattle.text.specs.declared.Field.the-variants.{Number, Malformed}
-use Rattle.text.specs.Written.{field-read, field-back, field-length, Fits}
+use Rattle.text.specs.RoundTrip.{field-read, field-back, field-length, Fits}
 use Rattle.tables.specs.Table.{Cells, given, before, join, cellOf, lineOf, lineBytes, tableOf}
 use Rattle.tables.specs.Table.Cells.{cells, bad}
 use Rattle.tables.specs.Text.{lineText, tableText}
 use Rattle.tables.specs.Size.{line-length}
-
--- 0 is not 1
-never : {X : Type 0} → _≡_ {A = ℕ} 0 1 → X
-never e = let o : ⊥ = omega arith in absurd o
 
 -- a list of no elements
 none : {A : Type 0} (l : List A) → length l ≡ 0 → l ≡ []

@@ -10,13 +10,14 @@ use lib.Seq.{drop-drop, drop-at}
 use lib.Dec.{ltb, eqb}
 use lib.IntN.{ℤ, pos}
 use borrow.Author.Tests.{ltb-false, eqb-true, le-ltb, eq-eqb}
+use Rattle.whole.specs.Bools.{never}
 use Rattle.text.specs.Field.{fieldWidth}
-use Rattle.text.specs.Written.{Fits}
+use Rattle.text.specs.RoundTrip.{Fits}
 use Rattle.tables.specs.Table.{Cells, lineOf, tableOf, lineBytes, LinesMax}
 use Rattle.tables.specs.Table.Cells.{cells, bad}
 use Rattle.tables.specs.Size.{line-length, table-length}
 use Rattle.tables.specs.Text.{lineText, tableText}
-use Rattle.tables.specs.Written.{line-read, table-read, line-back, table-back, line-bytes, table-bytes, AllFit}
+use Rattle.tables.specs.RoundTrip.{line-read, table-read, line-back, table-back, line-bytes, table-bytes, AllFit}
 use Rattle.chart.specs.Tables.{rows, unsigned}
 use Rattle.ranges.specs.Ranges.{countsRefused}
 use Rattle.ranges.specs.Passed.{Counted, counts-pass, passed-positive}
@@ -24,7 +25,7 @@ use Rattle.reading.specs.declared.Head.{Head}
 use Rattle.reading.specs.declared.Head.the-variants.{Refused, Counts}
 use Rattle.reading.specs.Reading.{countsOf, headLine, headLength, headOf, fileLength, Body, three, bodyOf, loadBody, loadOf, afterHead, chartIn}
 use Rattle.reading.specs.Reading.Body.{body, malformed}
-use Rattle.reading.specs.Laws.{never, head-counted}
+use Rattle.reading.specs.Laws.{head-counted}
 use Rattle.reading.specs.Text.{chartText, numbersAfter, numbersIn}
 
 -- ---- how long
