@@ -17,14 +17,14 @@ use Rattle.geometry.specs.declared.Place.{Place}
 use Rattle.geometry.specs.Plane.{onOpenSegment}
 use Rattle.geometry.specs.Laws.{circle-turn, chord-inside, segment-back}
 use Rattle.chart.specs.Chart.{Chart, partner, partner-twice, partner-in, outer}
-use Rattle.accepted.specs.Accepted.{Accepted, Inner, start, end, apex}
+use Rattle.sound.specs.Sound.{Sound, Inner, start, end, apex}
 use Rattle.locate.specs.Location.{onEdge}
 use Rattle.flips.specs.Search.{Found, found, inCircle, shouldFlip, opening, inspectFlips, inspectAll, openedCount}
 use Rattle.neighbors.specs.Neighbors.{finished, innerEdgeNeighbors, partOfConvexHull}
 use Rattle.flips.specs.Laws.{e1-in, e2-in, all-open}
 use Rattle.neighbors.specs.Counting.{All, nil, cons, search-leads, stay-open, edge-length}
 
-module _ (c : Chart) (a : Accepted c) where
+module _ (c : Chart) (a : Sound c) where
   -- a load on the open segment of an inner half-edge is inside its face's circle
   pub edge-circle : (q : Place) (h : ℕ) → Inner c h → onEdge c q h ≡ true → inCircle c q h ≡ true
   unfolding inCircle

@@ -36,7 +36,7 @@ module _ (c : Chart) (a : Accepted c) where
       ⊎-elim
       (λ (q : eqb g (c .adjacent k) ≡ true).
       let at : g ≡ c .adjacent k = eqb-true g (c .adjacent k) q in
-      let same : c .face g ≡ k = ap (c .face) at ∙ a .adjacent-face k (omega arith) in
+      let same : c .face g ≡ k = ap (c .face) at ∙ a .sound .adjacent-face k (omega arith) in
       (omega arith, at ∙ ap (c .adjacent) (sym same)))
       (λ (q : eqb g (c .adjacent k) ≡ false).
       let ih = firsts-face k g (omega arith) (ap (λ (b : Bool). b || firsts k g) (sym q) ∙ e) in
@@ -52,8 +52,8 @@ module _ (c : Chart) (a : Accepted c) where
   unfolding firsts
   firsts-count zero l = count-none (c .halfEdges)
   firsts-count (suc k) l =
-      count-new (c .halfEdges) (c .adjacent k) (firsts k) (a .range .adjacents k (omega arith))
-      (not-among k (c .adjacent k) (omega arith) (λ m e. omega (arith, a .adjacent-face k (omega arith))))
+      count-new (c .halfEdges) (c .adjacent k) (firsts k) (a .sound .range .adjacents k (omega arith))
+      (not-among k (c .adjacent k) (omega arith) (λ m e. omega (arith, a .sound .adjacent-face k (omega arith))))
       ∙ ap suc (firsts-count k (omega arith))
 
   -- a half-edge of face 1 that is not its adjacent one is not among them
@@ -63,17 +63,17 @@ module _ (c : Chart) (a : Accepted c) where
   pub more-edges : c .faces + 2 ≤ c .halfEdges
   unfolding add
   more-edges =
-      let f1 : c .face (c .adjacent 1) ≡ 1 = a .adjacent-face 1 (omega (arith, a .counts .f-least)) in
-      let l = a .inner-one .0 in
+      let f1 : c .face (c .adjacent 1) ≡ 1 = a .sound .adjacent-face 1 (omega (arith, a .counts .f-least)) in
+      let l = a .sound .inner-one .0 in
       let n : ℕ = c .next (c .adjacent 1) in
       let p : ℕ = c .prev (c .adjacent 1) in
       let s : ℕ → Bool = firsts (c .faces) in
       let one : countBelow (c .halfEdges) (add n s) ≡ suc (countBelow (c .halfEdges) s) =
-      count-new (c .halfEdges) n s (a .range .nexts (c .adjacent 1) l) (of-one n (a .next-face (c .adjacent 1) l ∙ f1) (a .next-differs (c .adjacent 1) l)) in
+      count-new (c .halfEdges) n s (a .sound .range .nexts (c .adjacent 1) l) (of-one n (a .sound .next-face (c .adjacent 1) l ∙ f1) (a .sound .next-differs (c .adjacent 1) l)) in
       let two : countBelow (c .halfEdges) (add p (add n s)) ≡ suc (countBelow (c .halfEdges) (add n s)) =
-      count-new (c .halfEdges) p (add n s) (a .range .prevs (c .adjacent 1) l)
-      (ap (λ (b : Bool). b || s p) (ne-eqb p n (λ e. a .next-prev-differ (c .adjacent 1) (a .inner-one) (sym e)))
-      ∙ of-one p (a .prev-face (c .adjacent 1) l ∙ f1) (a .prev-differs (c .adjacent 1) l)) in
+      count-new (c .halfEdges) p (add n s) (a .sound .range .prevs (c .adjacent 1) l)
+      (ap (λ (b : Bool). b || s p) (ne-eqb p n (λ e. a .sound .next-prev-differ (c .adjacent 1) (a .sound .inner-one) (sym e)))
+      ∙ of-one p (a .sound .prev-face (c .adjacent 1) l ∙ f1) (a .sound .prev-differs (c .adjacent 1) l)) in
       omega (arith, count-le (c .halfEdges) (add p (add n s)), firsts-count (c .faces) (omega arith))
 
   -- what the calls of `neighbors` ask of a chart and a lent slice
@@ -95,8 +95,8 @@ module _ (c : Chart) (a : Accepted c) where
   list-within q (OnVertex v) h = omega (arith, a .counts .e-least)
   list-within q (OnEdge h) k =
       ⊎-elim (λ (e : partOfConvexHull c h ≡ true). rw e (omega (arith, a .counts .e-least)))
-      (λ (e : partOfConvexHull c h ≡ false). rw e (omega (arith, edge-length c q (a .range) h (k .0), edge-most q h, more-edges)))
+      (λ (e : partOfConvexHull c h ≡ false). rw e (omega (arith, edge-length c q (a .sound .range) h (k .0), edge-most q h, more-edges)))
       (cases (partOfConvexHull c h))
-  list-within q (OnFace f) k = omega (arith, face-length c q (a .range) f (k .0), face-most q f, more-edges)
+  list-within q (OnFace f) k = omega (arith, face-length c q (a .sound .range) f (k .0), face-most q f, more-edges)
   list-within q (OutsideOfConvexHull h) k = omega arith
   list-within q NoPlace k = omega arith

@@ -36,7 +36,8 @@ fn chart_refusal(vertices: &[i64], edges: &[usize], faces: &[usize]) -> u64
     if delaunay::some_overhung(vertices, edges, faces) {
         return 10;
     }
-    if delaunay::some_crowded(vertices, edges, faces) {
+    // 11 of what is left: across one edge (crate nearby, `crowded-pressed`)
+    if across::some_pressed(vertices, edges, faces) {
         return 11;
     }
     0

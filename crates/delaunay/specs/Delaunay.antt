@@ -45,10 +45,6 @@ inCircle c q f = ltZ (pos 0) (circle (c .place (corner₀ c f)) (c .place (corne
 abbrev pub crowded : Chart → ℕ → Bool
 crowded c f = ltb 0 f && some (λ v. inCircle c (c .place v) f) (c .vertices)
 
--- vertex v is strictly inside the circle of a, b, c: the same, as the scan of the vertices has it
-abbrev pub liesInside : (ℕ → Place) → Place → Place → Place → ℕ → Bool
-liesInside place a b c v = ltZ (pos 0) (circle a b c (place v))
-
 -- every vertex is on the grid
 pub record Gridded (vs : List ℤ) : Type 0 where
   pub places : (v : ℕ) → v < rows vs → OnGrid (placeOf vs v)

@@ -1,4 +1,4 @@
-// Refusals 8 to 11: places, turns, rim and circles (01, "Where a call can be turned down").
+// Refusals 8 to 10: places, turns and rim (01, "Where a call can be turned down"). The definition of 11 stands beside theirs; its code is in `across`.
 use geometry::Place;
 ghost use mathlib.Core.Path.{_≡_};
 ghost use Prim.Native.Nat.{_<_};
@@ -7,7 +7,7 @@ ghost use Rattle.whole.specs.First.{some};
 ghost use Rattle.geometry.specs.Plane.{OnGrid};
 ghost use Rattle.chart.specs.Tables.{rows, placeOf};
 ghost use Rattle.chart.specs.Chart.{chartOf, InRange};
-ghost use Rattle.delaunay.specs.Delaunay.{Gridded, samePlace, standsAt, liesLeft, liesInside, sharesPlace, notLeft, overhung, crowded};
+ghost use Rattle.delaunay.specs.Delaunay.{Gridded, samePlace, standsAt, liesLeft, sharesPlace, notLeft, overhung};
 
 // Whether two places are one.
 pub fn is_same_place(p: Place, q: Place) -> bool
@@ -66,22 +66,6 @@ fn some_left(vertices: &[i64], a: Place, b: Place) -> bool
     false
 }
 
-// Whether some vertex is strictly inside the circle of the left-turning a, b, c.
-fn some_inside(vertices: &[i64], a: Place, b: Place, c: Place) -> bool
-    requires { ⌜ Gridded (now vertices) ⌝ ∗ ⌜ OnGrid a ⌝ ∗ ⌜ OnGrid b ⌝ ∗ ⌜ OnGrid c ⌝ }
-    ensures { λ r. ⌜ r ≡ some (liesInside (placeOf (now (vertices .entry))) a b c) (rows (now (vertices .entry))) ⌝ }
-{
-    let n = vertices.len() / 4;
-    let mut v = 0;
-    while v < n {
-        if geometry::contained_in_circumference(a, b, c, chart::place_of(vertices, v)) {
-            return true;
-        }
-        v += 1;
-    }
-    false
-}
-
 // Whether an inner face's corners don't turn strictly left.
 fn is_not_left(vertices: &[i64], edges: &[usize], faces: &[usize], f: usize) -> bool
     requires { ⌜ InRange (chartOf (now vertices) (now edges) (now faces)) ⌝ ∗ ⌜ f < length (now faces) ⌝ }
@@ -108,21 +92,6 @@ fn is_overhung(vertices: &[i64], edges: &[usize], faces: &[usize], h: usize) -> 
     let a = chart::from_of(vertices, edges, faces, h);
     let b = chart::to_of(vertices, edges, faces, h);
     some_left(vertices, a, b)
-}
-
-// Whether a vertex is strictly inside the circle of the inner face f.
-fn is_crowded(vertices: &[i64], edges: &[usize], faces: &[usize], f: usize) -> bool
-    requires { ⌜ InRange (chartOf (now vertices) (now edges) (now faces)) ⌝ ∗ ⌜ f < length (now faces) ⌝ }
-    ensures { λ r. ⌜ r ≡ crowded (chartOf (now (vertices .entry)) (now (edges .entry)) (now (faces .entry))) f ⌝ }
-{
-    if f == 0 {
-        return false;
-    }
-    let h = chart::adjacent_of(faces, f);
-    let a = chart::from_of(vertices, edges, faces, chart::prev_of(edges, h));
-    let b = chart::from_of(vertices, edges, faces, h);
-    let c = chart::from_of(vertices, edges, faces, chart::next_of(edges, h));
-    some_inside(vertices, a, b, c)
 }
 
 // 9: an inner face whose corners don't turn strictly left.
@@ -153,22 +122,6 @@ pub fn some_overhung(vertices: &[i64], edges: &[usize], faces: &[usize]) -> bool
             return true;
         }
         h += 1;
-    }
-    false
-}
-
-// 11: a vertex strictly inside an inner face's circle.
-pub fn some_crowded(vertices: &[i64], edges: &[usize], faces: &[usize]) -> bool
-    requires { ⌜ InRange (chartOf (now vertices) (now edges) (now faces)) ⌝ }
-    ensures { λ r. ⌜ r ≡ some (crowded (chartOf (now (vertices .entry)) (now (edges .entry)) (now (faces .entry)))) (length (now (faces .entry))) ⌝ }
-{
-    let n = faces.len();
-    let mut f = 0;
-    while f < n {
-        if is_crowded(vertices, edges, faces, f) {
-            return true;
-        }
-        f += 1;
     }
     false
 }

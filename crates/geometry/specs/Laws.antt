@@ -12,6 +12,10 @@ use Rattle.whole.specs.Sign.{Above, AtLeast, above-add, above-mul, above-atleas
 use Rattle.geometry.specs.declared.Place.{Place}
 use Rattle.geometry.specs.Plane.{vectorOf, crossOf, dotOf, norm2Of, side, lifted, circle, onOpenSegment}
 
+-- places with the same coordinates are one
+pub place-eq : (p q : Place) → p .x ≡ q .x → p .y ≡ q .y → p ≡ q
+place-eq p q e f = λ i. record { x = e i; y = f i }
+
 -- ---- the definitions over expressions: places whose coordinates are numbered variables
 pub record PlaceE : Type 0 where
   pub x : Expr
@@ -93,22 +97,12 @@ pub circle-turn : (a b c q : Place) → circle a b c q ≡ circle b c a q
 unfolding circle lifted norm2Of crossOf agree
 circle-turn a b c q = solve! (four a b c q) (circleE A B C Q) (circleE B C A Q) tt
 
--- a and q exchanged: the other sign
-pub circle-swap : (a b c q : Place) → circle a b c q ≡ pos 0 -ℤ circle q b c a
-unfolding circle lifted norm2Of crossOf agree
-circle-swap a b c q = solve! (four a b c q) (circleE A B C Q) (con (pos 0) ⊖ circleE Q B C A) tt
-
--- the determinant, by powers of the first vector's coordinates
-pub lifted-horner : (u v w : Place) → u .x *ℤ (crossOf v w *ℤ u .x +ℤ (norm2Of w *ℤ v .y -ℤ norm2Of v *ℤ w .y)) +ℤ u .y *ℤ (crossOf v w *ℤ u .y +ℤ (norm2Of v *ℤ w .x -ℤ norm2Of w *ℤ v .x)) ≡ lifted u v w
-unfolding lifted norm2Of crossOf agree
-lifted-horner u v w =
-    solve! (four u v w w)
-    (A .x ⊗ (crossE B C ⊗ A .x ⊕ (norm2E C ⊗ B .y ⊖ norm2E B ⊗ C .y)) ⊕ A .y ⊗ (crossE B C ⊗ A .y ⊕ (norm2E B ⊗ C .x ⊖ norm2E C ⊗ B .x)))
-    (liftedE A B C) tt
-
--- inside the circle, by the exchanged determinant
-pub inside-swap : (a b c q : Place) → ltZ (circle q b c a) (pos 0) ≡ ltZ (pos 0) (circle a b c q)
-inside-swap a b c q = sym (ap (λ (z : ℤ). ltZ (pos 0) z) (circle-swap a b c q) ∙ below-zero (circle q b c a))
+-- by the sides of c and q at a to b, and by the ends as they see them
+pub circle-power : (a b c q : Place) → circle a b c q ≡ side a b q *ℤ dotOf (vectorOf c a) (vectorOf c b) -ℤ side a b c *ℤ dotOf (vectorOf q a) (vectorOf q b)
+unfolding circle lifted norm2Of side crossOf dotOf agree
+circle-power a b c q =
+    solve! (four a b c q) (circleE A B C Q)
+    (sideE A B Q ⊗ dotE (vectorE C A) (vectorE C B) ⊖ sideE A B C ⊗ dotE (vectorE Q A) (vectorE Q B)) tt
 
 -- ---- the open segment
 norm2-low : (u : Place) → AtLeast (norm2Of u)

@@ -58,13 +58,9 @@ onOpenSegment a b q = eqZ (side a b q) (pos 0) && ltZ (dotOf (vectorOf q a) (vec
 abbrev pub Step : ℕ
 Step = Grid + Grid
 
--- a cross product or a squared length
+-- a cross product or a dot product
 abbrev pub Area : ℕ
 Area = Step * Step + Step * Step
-
--- and a squared length times a coordinate, less another
-abbrev pub Minor : ℕ
-Minor = Area * Step + Area * Step
 
 -- a vector between two places of the grid
 pub record Near (u : Place) : Type 0 where
@@ -89,23 +85,18 @@ pub dot-in : {u v : Place} → Near u → Near v → Within Area (dotOf u v)
 unfolding dotOf
 dot-in u v = add-in (mul-in (u .x-in) (v .x-in)) (mul-in (u .y-in) (v .y-in))
 
--- the bound of a squared length
-pub norm2-in : {u : Place} → Near u → Within Area (norm2Of u)
-unfolding norm2Of
-norm2-in u = add-in (mul-in (u .x-in) (u .x-in)) (mul-in (u .y-in) (u .y-in))
-
--- the bound of a minor
-pub minor-in : {s x t y : ℤ} → Within Area s → Within Step x → Within Area t → Within Step y → Within Minor (t *ℤ y -ℤ s *ℤ x)
-minor-in s x t y = sub-in (mul-in t y) (mul-in s x)
-
--- the bound of half the circle's determinant
-pub horner-in : {d x e : ℤ} → Within Area d → Within Step x → Within Minor e → Within (Step * (Area * Step + Minor)) (x *ℤ (d *ℤ x +ℤ e))
-horner-in d x e = mul-in x (add-in (mul-in d x) e)
+-- the bound of the circle's determinant
+pub minor-in : {s d t e : ℤ} → Within Area s → Within Area d → Within Area t → Within Area e → Within (Area * Area + Area * Area) (s *ℤ d -ℤ t *ℤ e)
+minor-in s d t e = sub-in (mul-in s d) (mul-in t e)
 
 -- the bound of a side
 pub side-in : {a b q : Place} → OnGrid a → OnGrid b → OnGrid q → Within Area (side a b q)
 unfolding side
 side-in a b q = cross-in (vector-near a b) (vector-near a q)
+
+-- the bound of the ends as q sees them
+pub ends-in : {a b q : Place} → OnGrid a → OnGrid b → OnGrid q → Within Area (dotOf (vectorOf q a) (vectorOf q b))
+ends-in a b q = dot-in (vector-near q a) (vector-near q b)
 
 -- what is not off the grid is on it
 pub on-grid : (p : Place) → offGrid p ≡ false → OnGrid p

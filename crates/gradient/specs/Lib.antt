@@ -2,6 +2,5 @@ pub mod Turn
 pub mod Gradient
 pub mod Sums
 pub mod Round
-pub mod Line
 pub mod Upward
 pub mod Estimated

@@ -9,7 +9,7 @@ use native.Mathlib.Omega.{arith}
 use lib.Dec.{eqb}
 use Rattle.whole.specs.Orbit.{after, Back, comes-back}
 use Rattle.chart.specs.Chart.{Chart, partner, partner-twice}
-use Rattle.accepted.specs.Accepted.{Accepted}
+use Rattle.sound.specs.Sound.{Sound}
 use Rattle.gradient.specs.Turn.{ccw, turn, otherOutEdges, turn-back, turn-on, ccw-in}
 
 -- n numbers, from h on by f
@@ -30,7 +30,7 @@ pub record Round (c : Chart) (v : ℕ) : Type 0 where
   -- all of them start at v
   pub starts : Each (λ h. c .origin h ≡ v) (c .out v ∷ otherOutEdges c v)
 
-module _ (c : Chart) (a : Accepted c) where
+module _ (c : Chart) (a : Sound c) where
   -- partner and prev are one-to-one
   ccw-one : (i j : ℕ) → i < c .halfEdges → j < c .halfEdges → ccw c i ≡ ccw c j → i ≡ j
   ccw-one i j l m e =

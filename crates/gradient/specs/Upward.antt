@@ -1,24 +1,24 @@
 -- On an accepted chart the last component sum is above 0 at every vertex: of the out half-edge and the one after it one is inner, and its triangle turns
 -- left. So the division is never by 0, and the case of +0, +0 never comes. Assumes nothing.
 use mathlib.Core.Path.{_≡_, refl, sym, ap, subst, _∙_}
-use mathlib.Core.Logic.{_⊎_, inl, inr}
 use mathlib.Core.Bool.{Bool, true, false, cond}
 use mathlib.Core.List.{List, [], _∷_, map}
 use Prim.Native.Nat.{ℕ, _-_, _<_, zero-le}
 use native.Mathlib.Omega.{arith}
 use lib.Dec.{eqb, le→leb}
-use lib.IntN.{ℤ, pos, negsuc, negℤ, +ℤ-comm, +ℤ-idl}
+use lib.IntN.{ℤ, pos, negsuc, +ℤ-comm}
 use lib.Signed.{ltZ}
 use borrow.Author.Tests.{eqb-true, eqb-false}
 use Rattle.whole.specs.Test.{ne-eqZ}
-use Rattle.whole.specs.Sign.{Above, AtLeast, above-add, above-atleast, atleast-add, not-zero, signs, test-above, above-test}
+use Rattle.whole.specs.Sign.{Above, AtLeast, above-add, above-atleast, atleast-add, not-zero, test-above, above-test}
 use Rattle.geometry.specs.Plane.{crossOf, side}
-use Rattle.chart.specs.Chart.{Chart, partner, partner-twice, partner-in}
-use Rattle.accepted.specs.Accepted.{Accepted, Inner, Outer, start, end, apex}
+use Rattle.chart.specs.Chart.{Chart, partner, partner-twice}
+use Rattle.nearby.specs.Rim.{inner-side}
+use Rattle.sound.specs.Sound.{Inner, Outer}
+use Rattle.accepted.specs.Accepted.{Accepted}
 use Rattle.gradient.specs.Turn.{ccw, turn, overPairs, turn-back, turn-on, ccw-in}
 use Rattle.gradient.specs.Gradient.{gradientOf}
 use Rattle.gradient.specs.Sums.{Vector, quotients, wholeGradient, gradient-exact, wholeSpot, wholeEnd, wholeNormal, wholePlus, wholeAdd, wholePair, normalSums}
-use Rattle.gradient.specs.Line.{on-a-line}
 use Rattle.gradient.specs.Round.{ccw-starts}
 
 -- ---- a sum of normals that point up
@@ -54,33 +54,10 @@ over-keeps v first s last [] h = add-keeps s (wholeNormal v last first) h
 over-keeps v first s last (p ∷ ps) h = over-keeps v first (wholePair v s last p) p ps (add-keeps s (wholeNormal v last p) h)
 
 module _ (c : Chart) (a : Accepted c) where
-  -- ---- a half-edge and its partner are not both outer
-  on-hull : (h z : ℕ) → Outer c h → Outer c (partner h) → z < c .vertices → side (start c h) (end c h) (c .place z) ≡ pos 0
-  on-hull h z o p l = pick (signs (side (start c h) (end c h) (c .place z)))
-    where
-      s : ℤ
-      s = side (start c h) (end c h) (c .place z)
-
-      pick : Above s ⊎ ((s ≡ pos 0) ⊎ Above (negℤ s)) → s ≡ pos 0
-      pick (inl x) = absurd (a .hull h z o l x)
-      pick (inr (inl e)) = e
-      pick (inr (inr n)) = absurd (a .hull (partner h) z p l (subst Above (sym (a .partner-side h (c .place z) ∙ +ℤ-idl (negℤ s))) n))
-
-  -- all vertices would be on its line, those of an inner face too
-  one-inner : (h : ℕ) → Outer c h → Outer c (partner h) → ⊥
-  one-inner h o p =
-      let g = c .adjacent 1 in
-      let i = a .inner-one in
-      let r = a .range in
-      on-a-line (start c h) (end c h) (start c g) (end c g) (apex c g)
-      (λ e. a .ends-differ h (o .0) (a .one-place (c .origin h) (c .origin (partner h)) (r .origins h (o .0)) (r .origins (partner h) (partner-in r h (o .0))) e))
-      (on-hull h (c .origin g) o p (r .origins g (i .0))) (on-hull h (c .origin (partner g)) o p (r .origins (partner g) (partner-in r g (i .0))))
-      (on-hull h (c .origin (c .prev g)) o p (r .origins (c .prev g) (r .prevs g (i .0)))) (a .turns-left g i)
-
   -- ---- the triangle of an inner half-edge points up
   up : (v h : ℕ) → Inner c h → c .origin h ≡ v → Above (wholeNormal (wholeSpot c v) (wholeEnd c h) (wholeEnd c (ccw c h)) .z)
   unfolding side crossOf
-  up v h i e = rw (← e, partner-twice (c .prev h)) (a .turns-left h i)
+  up v h i e = rw (← e, partner-twice (c .prev h)) (a .sound .turns-left h i)
 
   module _ (v s : ℕ) where
     -- what is left of the sum, from h on
@@ -106,13 +83,13 @@ module _ (c : Chart) (a : Accepted c) where
   outer-on : (s : ℕ) → Outer c s → ccw c s ≡ s → ⊥
   outer-on s (l, o) e =
       let p : partner s ≡ c .prev s = ap partner (sym e) ∙ partner-twice (c .prev s) in
-      one-inner s (l, o) (partner-in (a .range) s l, ap (c .face) p ∙ a .prev-face s l ∙ o)
+      inner-side c (a .sound) s l o (ap (c .face) p ∙ a .sound .prev-face s l ∙ o)
 
   -- and the next one is inner
   outer-next : (s : ℕ) → Outer c s → Inner c (ccw c s)
   outer-next s (l, o) =
-      let m = ccw-in (a .range) s l in
-      (m, λ e. outer-on s (l, o) (a .lone (ccw c s) s (m, e) (l, o) (ccw-starts c a s l)))
+      let m = ccw-in (a .sound .range) s l in
+      (m, λ e. outer-on s (l, o) (a .sound .lone (ccw c s) s (m, e) (l, o) (ccw-starts c (a .sound) s l)))
 
   pub sum-above : (v : ℕ) → v < c .vertices → Above (normalSums c v .z)
   unfolding overPairs
@@ -122,7 +99,7 @@ module _ (c : Chart) (a : Accepted c) where
       s = c .out v
 
       m : s < c .halfEdges
-      m = a .range .outs v l
+      m = a .sound .range .outs v l
 
       none : Vector
       none = record { x = pos 0; y = pos 0; z = pos 0 }
@@ -132,12 +109,12 @@ module _ (c : Chart) (a : Accepted c) where
           let o : Outer c s = (m, eqb-true (c .face s) 0 d) in
           rw (turn-on c s (c .halfEdges - 1) (ccw c s) (outer-on s o) (omega arith))
           (inner-up v s (wholePair (wholeSpot c v) none (wholeEnd c s) (wholeEnd c (ccw c s))) (ccw c s) (c .halfEdges - 1 - 1) (outer-next s o)
-          (ccw-starts c a s m ∙ a .out-start v l) (add-low none (wholeNormal (wholeSpot c v) (wholeEnd c s) (wholeEnd c (ccw c s))) (record { is = tt })) (omega arith))
-      pick false d = inner-up v s none s (c .halfEdges - 1) (m, eqb-false (c .face s) 0 d) (a .out-start v l) (record { is = tt }) (omega arith)
+          (ccw-starts c (a .sound) s m ∙ a .sound .out-start v l) (add-low none (wholeNormal (wholeSpot c v) (wholeEnd c s) (wholeEnd c (ccw c s))) (record { is = tt })) (omega arith))
+      pick false d = inner-up v s none s (c .halfEdges - 1) (m, eqb-false (c .face s) 0 d) (a .sound .out-start v l) (record { is = tt }) (omega arith)
 
   -- only the two divisions round, and none is by 0
   pub gradient-accepted : (v : ℕ) → v < c .vertices → gradientOf c v ≡ quotients (normalSums c v)
   unfolding wholeGradient
   gradient-accepted v l =
-      gradient-exact c (a .range) (a .values) (a .counts .e-most) v l
+      gradient-exact c (a .sound .range) (a .values) (a .counts .e-most) v l
       ∙ rw (ne-eqZ (normalSums c v .z) (pos 0) (not-zero (sum-above v l)))

@@ -5,7 +5,7 @@ use mathlib.Core.Path.{_≡_, refl, sym, ap, subst, _∙_}
 use mathlib.Core.Bool.{Bool, true, false, false≢true}
 use Prim.Native.Nat.{ℕ, zero, suc, _+_, _-_, _≤_, _<_, zero-le}
 use native.Mathlib.Nat.{lt-of-lt-of-le, sub-zero, lt-irrefl, not-le-of-lt, eq-or-lt-of-le, add-suc, suc-add, add-zero, zero-add}
-use mathlib.Core.Logic.{⊎-elim}
+use mathlib.Core.Logic.{_⊎_, inl, inr, ⊎-elim}
 use lib.Dec.{ltb}
 use borrow.Author.Tests.{ltb-true, ltb-false}
 use borrow.Author.Count.{below-more}
@@ -104,6 +104,14 @@ some-at p n i l e = choose (some p n) refl
 -- where none below n passes, nothing is found
 pub some-none : (p : ℕ → Bool) (n : ℕ) → ((k : ℕ) → k < n → p k ≡ false) → some p n ≡ false
 some-none p n h = is-false (some p n) (λ e. let l = ltb-true (first p n) n e in false≢true (sym (h (first p n) l) ∙ first-found p n l))
+
+-- there is one below n that passes, or none does
+pub some-or-none : (p : ℕ → Bool) (n : ℕ) → ((i : ℕ) × (i < n) × (p i ≡ true)) ⊎ ((i : ℕ) → i < n → p i ≡ false)
+some-or-none p n = choose (some p n) refl
+  where
+    choose : (b : Bool) → some p n ≡ b → ((i : ℕ) × (i < n) × (p i ≡ true)) ⊎ ((i : ℕ) → i < n → p i ≡ false)
+    choose true e = let l = ltb-true (first p n) n e in inl (first p n, l, first-found p n l)
+    choose false e = inr (none-at p n e)
 
 -- one more that does not pass
 pub some-skip : (p : ℕ → Bool) (n : ℕ) → p n ≡ false → some p (n + 1) ≡ some p n

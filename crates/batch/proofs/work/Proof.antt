@@ -20,7 +20,7 @@ slice-aggregate-estimate-gradients : tie.Need-slice-aggregate-estimate-gradients
 slice-aggregate-estimate-gradients c = search needs
 
 estimate-gradients-requires : tie.Need-estimate-gradients-requires
-estimate-gradients-requires c κs = let s = c .before .before .before .before .before .before .before .before .before in (s .pre .0 .range, (s .pre .0 .values, omega (arith, s .pre .0 .counts .v-most, c .before .room2 .ensures)))
+estimate-gradients-requires c κs = let s = c .before .before .before .before .before .before .before .before .before in (s .pre .0 .sound .range, (s .pre .0 .values, omega (arith, s .pre .0 .counts .v-most, c .before .room2 .ensures)))
 
 slice-aggregate-work-all : tie.Need-slice-aggregate-work-all
 slice-aggregate-work-all c = search needs

@@ -65,7 +65,7 @@ gradient-on-requires c κs =
     let s = c .before .before .before .before .before .before .before .before .before .before .before .before .before .before .before in
     let l = c .before .before .before .before .before .before .before .load in
     let k = load-accepted (s .args .v) (s .args .e) (s .args .f) (s .args .chart .now) _ _ _ (s .pre) (l .ensures ∙ told-zero (l .result) _ _ _ (c .before .before .before .if1 .left)) in
-    (k .range, k .values)
+    (k .sound .range, k .values)
 
 returns-2 : tie.Need-returns-2
 returns-2 c =

@@ -21,7 +21,7 @@ get-natural-neighbor-edges-requires c κs =
     let s = c .before .before .before .before .before in
     let a = s .args in
     let k = s .pre .0 in
-    (k .range, (s .pre .1 .0, (s .pre .1 .1 .0, roomy (chartOf (a .vertices .now) (a .edges .now) (a .faces .now)) k _ (omega (arith, k .counts .e-most, c .before .list-room .ensures)))))
+    (k .sound .range, (s .pre .1 .0, (s .pre .1 .1 .0, roomy (chartOf (a .vertices .now) (a .edges .now) (a .faces .now)) k _ (omega (arith, k .counts .e-most, c .before .list-room .ensures)))))
 
 array-share-prefix-list : tie.Need-array-share-prefix-list
 array-share-prefix-list c =

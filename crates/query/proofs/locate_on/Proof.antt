@@ -14,7 +14,7 @@ unfolding locateOn
 returns c = rw (sym (c .before .off-grid .ensures) ∙ c .if1 .taken)
 
 locate-requires : tie.Need-locate-requires
-locate-requires c κs = let s = c .before .before .before .before in (s .pre .range, (on-grid (s .args .q) (sym (c .before .off-grid .ensures) ∙ c .if1 .left), s .pre .counts .e-most))
+locate-requires c κs = let s = c .before .before .before .before in (s .pre .sound .range, (on-grid (s .args .q) (sym (c .before .off-grid .ensures) ∙ c .if1 .left), s .pre .counts .e-most))
 
 position-requires : tie.Need-position-requires
 position-requires c κs = search needs

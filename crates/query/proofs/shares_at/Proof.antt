@@ -27,7 +27,7 @@ get-natural-neighbor-edges-requires c κs =
     let s = c .before .before .before .before .before .before in
     let a = s .args in
     let k = s .pre .0 in
-    (k .range, (s .pre .1 .0, (s .pre .1 .1 .0, roomy (chartOf (a .vertices .now) (a .edges .now) (a .faces .now)) k _ (omega (arith, k .counts .e-most, c .before .list-room .ensures)))))
+    (k .sound .range, (s .pre .1 .0, (s .pre .1 .1 .0, roomy (chartOf (a .vertices .now) (a .edges .now) (a .faces .now)) k _ (omega (arith, k .counts .e-most, c .before .list-room .ensures)))))
 
 array-share-prefix-list : tie.Need-array-share-prefix-list
 array-share-prefix-list c =
@@ -55,11 +55,11 @@ natural-weights-requires c κs =
     let e = answer-count (neighborsOf (chartOf (a .vertices .now) (a .edges .now) (a .faces .now)) (a .q) (a .place)) _ (f .result) _ (f .ensures) in
     let w = list-within (chartOf (a .vertices .now) (a .edges .now) (a .faces .now)) (s .pre .0) (a .q) (a .place) (s .pre .1 .1 .0) in
     rw (answer-edges (neighborsOf (chartOf (a .vertices .now) (a .edges .now) (a .faces .now)) (a .q) (a .place)) _ (f .result) _ (f .ensures)) (
-      s .pre .0 .range,
+      s .pre .0 .sound .range,
       (
         s .pre .1 .0,
         (
-          record { below = listed-below (chartOf (a .vertices .now) (a .edges .now) (a .faces .now)) (a .q) (s .pre .0 .range) (a .place) (s .pre .1 .1 .0); few = omega (arith, w, s .pre .0 .counts .e-most) },
+          record { below = listed-below (chartOf (a .vertices .now) (a .edges .now) (a .faces .now)) (a .q) (s .pre .0 .sound .range) (a .place) (s .pre .1 .1 .0); few = omega (arith, w, s .pre .0 .counts .e-most) },
           (omega (arith, w, s .pre .1 .1 .1 .0), omega (arith, w, s .pre .1 .1 .1 .1)),
         ),
       ),

@@ -16,10 +16,10 @@ unfolding barycentricOn
 returns c = rw (sym (c .before .off-grid .ensures) ∙ c .if1 .taken)
 
 locate-requires : tie.Need-locate-requires
-locate-requires c κs = let s = c .before .before .before .before in (s .pre .range, (on-grid (s .args .q) (sym (c .before .off-grid .ensures) ∙ c .if1 .left), s .pre .counts .e-most))
+locate-requires c κs = let s = c .before .before .before .before in (s .pre .sound .range, (on-grid (s .args .q) (sym (c .before .off-grid .ensures) ∙ c .if1 .left), s .pre .counts .e-most))
 
 weights-at-requires : tie.Need-weights-at-requires
-weights-at-requires c κs = let s = c .before .before .before .before .before in (s .pre .range, (on-grid (s .args .q) (sym (c .before .before .off-grid .ensures) ∙ c .before .if1 .left), c .locate .ensures))
+weights-at-requires c κs = let s = c .before .before .before .before .before in (s .pre .sound .range, (on-grid (s .args .q) (sym (c .before .before .off-grid .ensures) ∙ c .before .if1 .left), c .locate .ensures))
 
 returns-2 : tie.Need-returns-2
 unfolding barycentricOn

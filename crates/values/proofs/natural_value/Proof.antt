@@ -22,7 +22,7 @@ get-natural-neighbor-edges-requires c κs =
     let s = c .before .before .before .before .before .before .before in
     let a = s .args in
     let k = s .pre .0 in
-    (k .range, (s .pre .1 .0, (s .pre .1 .1 .0, roomy (chartOf (a .vertices .now) (a .edges .now) (a .faces .now)) k _ (omega (arith, k .counts .e-most, s .pre .1 .1 .1 .0 .list-room)))))
+    (k .sound .range, (s .pre .1 .0, (s .pre .1 .1 .0, roomy (chartOf (a .vertices .now) (a .edges .now) (a .faces .now)) k _ (omega (arith, k .counts .e-most, s .pre .1 .1 .1 .0 .list-room)))))
 
 slice-reshare-prefix-natural-shares : tie.Need-slice-reshare-prefix-natural-shares
 slice-reshare-prefix-natural-shares c =
@@ -50,11 +50,11 @@ natural-shares-requires c κs =
     let e = answer-count (neighborsOf (chartOf (a .vertices .now) (a .edges .now) (a .faces .now)) (a .q) (a .place)) _ (f .result) _ (f .ensures) in
     let w = list-within (chartOf (a .vertices .now) (a .edges .now) (a .faces .now)) (s .pre .0) (a .q) (a .place) (s .pre .1 .1 .0) in
     rw (answer-edges (neighborsOf (chartOf (a .vertices .now) (a .edges .now) (a .faces .now)) (a .q) (a .place)) _ (f .result) _ (f .ensures)) (
-      s .pre .0 .range,
+      s .pre .0 .sound .range,
       (
         s .pre .1 .0,
         (
-          record { below = listed-below (chartOf (a .vertices .now) (a .edges .now) (a .faces .now)) (a .q) (s .pre .0 .range) (a .place) (s .pre .1 .1 .0); few = omega (arith, w, s .pre .0 .counts .e-most) },
+          record { below = listed-below (chartOf (a .vertices .now) (a .edges .now) (a .faces .now)) (a .q) (s .pre .0 .sound .range) (a .place) (s .pre .1 .1 .0); few = omega (arith, w, s .pre .0 .counts .e-most) },
           (omega (arith, w, s .pre .0 .counts .e-most, s .pre .1 .1 .1 .0 .xs-room), omega (arith, w, s .pre .0 .counts .e-most, s .pre .1 .1 .1 .0 .ys-room)),
         ),
       ),
@@ -87,7 +87,7 @@ to-origins-requires c κs =
     let w = list-within (chartOf (a .vertices .now) (a .edges .now) (a .faces .now)) (s .pre .0) (a .q) (a .place) (s .pre .1 .1 .0) in
     let list = f .last .1 .1 .1 .1 .1 .0 in
     let below : (k : ℕ) → k < f .result .count → getD list k 0 < rows (a .edges .now)
-    = λ k l. rw (← getD-take (f .result .count) list k 0 l, answer-edges (neighborsOf (chartOf (a .vertices .now) (a .edges .now) (a .faces .now)) (a .q) (a .place)) _ (f .result) _ (f .ensures)) (listed-below (chartOf (a .vertices .now) (a .edges .now) (a .faces .now)) (a .q) (s .pre .0 .range) (a .place) (s .pre .1 .1 .0) k (omega (arith, e, l))) in
+    = λ k l. rw (← getD-take (f .result .count) list k 0 l, answer-edges (neighborsOf (chartOf (a .vertices .now) (a .edges .now) (a .faces .now)) (a .q) (a .place)) _ (f .result) _ (f .ensures)) (listed-below (chartOf (a .vertices .now) (a .edges .now) (a .faces .now)) (a .q) (s .pre .0 .sound .range) (a .place) (s .pre .1 .1 .0) k (omega (arith, e, l))) in
     ((omega (arith, e, w, s .pre .0 .counts .e-most), omega (arith, e, w, s .pre .0 .counts .e-most, s .pre .1 .1 .1 .0 .list-room, f .kept .1 .1 .1 .1 .1 .0)), below)
 
 slice-reshare-prefix-value-by : tie.Need-slice-reshare-prefix-value-by
@@ -135,7 +135,7 @@ value-by-requires c κs =
     let w = list-within (chartOf (a .vertices .now) (a .edges .now) (a .faces .now)) (s .pre .0) (a .q) (a .place) (s .pre .1 .1 .0) in
     let po = length-take-le (f .result .count) (c .before .before .before .before .to-origins .last .1 .0) (omega (arith, e, w, s .pre .0 .counts .e-most, s .pre .1 .1 .1 .0 .list-room, f .kept .1 .1 .1 .1 .1 .0, c .before .before .before .before .to-origins .kept .1 .0)) in
     let pw = length-take-le (f .result .count) (c .before .before .before .before .before .before .before .before .before .before .before .natural-shares .last .1 .1 .1 .1 .1 .0) (omega (arith, e, w, s .pre .0 .counts .e-most, s .pre .1 .1 .1 .0 .xs-room, c .before .before .before .before .before .before .before .before .before .before .before .natural-shares .kept .1 .1 .1 .1 .1 .0)) in (
-      s .pre .0 .range,
+      s .pre .0 .sound .range,
       (
         s .pre .0 .values,
         (
@@ -143,7 +143,7 @@ value-by-requires c κs =
           (
             s .pre .1 .0,
             (
-              subst (Owners (chartOf (a .vertices .now) (a .edges .now) (a .faces .now))) (sym (c .before .before .before .before .to-origins .ensures ∙ ap (map ((chartOf (a .vertices .now) (a .edges .now) (a .faces .now)) .origin)) (answer-edges (neighborsOf (chartOf (a .vertices .now) (a .edges .now) (a .faces .now)) (a .q) (a .place)) _ (f .result) _ (f .ensures)))) (listed-owners (chartOf (a .vertices .now) (a .edges .now) (a .faces .now)) (s .pre .0 .range) ((neighborsOf (chartOf (a .vertices .now) (a .edges .now) (a .faces .now)) (a .q) (a .place)) .edges) (listed-below (chartOf (a .vertices .now) (a .edges .now) (a .faces .now)) (a .q) (s .pre .0 .range) (a .place) (s .pre .1 .1 .0))),
+              subst (Owners (chartOf (a .vertices .now) (a .edges .now) (a .faces .now))) (sym (c .before .before .before .before .to-origins .ensures ∙ ap (map ((chartOf (a .vertices .now) (a .edges .now) (a .faces .now)) .origin)) (answer-edges (neighborsOf (chartOf (a .vertices .now) (a .edges .now) (a .faces .now)) (a .q) (a .place)) _ (f .result) _ (f .ensures)))) (listed-owners (chartOf (a .vertices .now) (a .edges .now) (a .faces .now)) (s .pre .0 .sound .range) ((neighborsOf (chartOf (a .vertices .now) (a .edges .now) (a .faces .now)) (a .q) (a .place)) .edges) (listed-below (chartOf (a .vertices .now) (a .edges .now) (a .faces .now)) (a .q) (s .pre .0 .sound .range) (a .place) (s .pre .1 .1 .0))),
               (po ∙ sym pw, omega (arith, po, e, w, s .pre .0 .counts .e-most)),
             ),
           ),

@@ -18,7 +18,7 @@ weighed-value-requires : tie.Need-weighed-value-requires
 weighed-value-requires c κs =
     let s = c .before .before .before .before .before .before .before .before in
     let a = s .args in
-    (s .pre .0 .values, subst (λ (x : Weights). Owners (chartOf (a .vertices .now) (a .edges .now) (a .faces .now)) (verticesIn x)) (sym (c .weights-at .ensures)) (barycentric-owners (chartOf (a .vertices .now) (a .edges .now) (a .faces .now)) (a .q) (a .place) (s .pre .0 .range) (located _ _ _ (s .pre .1 .1 .0))))
+    (s .pre .0 .values, subst (λ (x : Weights). Owners (chartOf (a .vertices .now) (a .edges .now) (a .faces .now)) (verticesIn x)) (sym (c .weights-at .ensures)) (barycentric-owners (chartOf (a .vertices .now) (a .edges .now) (a .faces .now)) (a .q) (a .place) (s .pre .0 .sound .range) (located _ _ _ (s .pre .1 .1 .0))))
 
 returns : tie.Need-returns
 returns c =

@@ -35,7 +35,7 @@ slice-aggregate-estimate-gradients : tie.Need-slice-aggregate-estimate-gradients
 slice-aggregate-estimate-gradients c = search needs
 
 estimate-gradients-requires : tie.Need-estimate-gradients-requires
-estimate-gradients-requires c κs = let s = c .before .before .before .before .before .before .before .before .before .before .before .before .before .before in (s .pre .0 .range, (s .pre .0 .values, omega (arith, s .pre .0 .counts .v-most, c .before .room2 .ensures)))
+estimate-gradients-requires c κs = let s = c .before .before .before .before .before .before .before .before .before .before .before .before .before .before in (s .pre .0 .sound .range, (s .pre .0 .values, omega (arith, s .pre .0 .counts .v-most, c .before .room2 .ensures)))
 
 slice-aggregate-located-value : tie.Need-slice-aggregate-located-value
 slice-aggregate-located-value c = search needs

@@ -1,0 +1,6 @@
+pub mod Points
+pub mod Corner
+pub mod Rays
+pub mod Window
+pub mod Line
+pub mod Tilt

@@ -1,0 +1,1 @@
+// Triangles, edges and rays over places: everything is in specs/.

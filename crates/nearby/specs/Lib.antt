@@ -1,0 +1,9 @@
+pub mod Chart
+pub mod Rim
+pub mod Line
+pub mod Tally
+pub mod Vertex
+pub mod Windows
+pub mod Walk
+pub mod Local
+pub mod Needed

@@ -1,0 +1,4 @@
+pub mod Signs
+pub mod Order
+pub mod Sum
+pub mod Count

@@ -1,0 +1,1 @@
+// Signs of whole numbers by enumeration, and finite sums: everything is in specs/.
