@@ -1,1 +1,2 @@
 pub mod Delaunay
+pub mod Buckets

@@ -1,13 +1,24 @@
 // Refusals 8 to 10: places, turns and rim (01, "Where a call can be turned down"). The definition of 11 stands beside theirs; its code is in `across`.
 use geometry::Place;
 ghost use mathlib.Core.Path.{_≡_};
+ghost use mathlib.Core.Bool.{false};
 ghost use Prim.Native.Nat.{_<_};
-ghost use lib.ListN.{length};
+ghost use lib.ListN.{length, replicate};
 ghost use Rattle.whole.specs.First.{some};
 ghost use Rattle.geometry.specs.Plane.{OnGrid};
 ghost use Rattle.chart.specs.Tables.{rows, placeOf};
 ghost use Rattle.chart.specs.Chart.{chartOf, InRange};
+ghost use Rattle.delaunay.specs.Buckets.{Buckets, bucketOf};
 ghost use Rattle.delaunay.specs.Delaunay.{Gridded, samePlace, standsAt, liesLeft, sharesPlace, notLeft, overhung};
+
+// How many buckets the places are sorted into: a prime, so that those of a lattice spread.
+const BUCKETS: usize = 509;
+
+// The weight of y beside x: as far as a row of a lattice goes.
+const SPREAD: i64 = 32;
+
+// What lifts the sum from the grid to numbers that are not negative.
+const LIFT: i64 = (SPREAD + 1) * geometry::GRID;
 
 // Whether two places are one.
 pub fn is_same_place(p: Place, q: Place) -> bool
@@ -34,17 +45,38 @@ fn some_below_at(vertices: &[i64], v: usize, p: Place) -> bool
     false
 }
 
-// 8: two vertices at one place.
+// No bucket has a vertex yet.
+fn no_bucket() -> [bool; BUCKETS]
+    ensures { λ r. ⌜ r ≡ replicate Buckets false ⌝ }
+{
+    [false; BUCKETS]
+}
+
+// The bucket of a place of the grid.
+fn bucket_of(p: Place) -> usize
+    requires { ⌜ OnGrid p ⌝ }
+    ensures { λ r. ⌜ r ≡ bucketOf p ⌝ }
+{
+    chart::to_unsigned(p.x + p.y * SPREAD + LIFT) % BUCKETS
+}
+
+// 8: two vertices at one place. Those at one place have one bucket, so the vertices below v are scanned only where its bucket has one.
 pub fn some_share_place(vertices: &[i64], edges: &[usize], faces: &[usize]) -> bool
     requires { ⌜ InRange (chartOf (now vertices) (now edges) (now faces)) ⌝ }
     ensures { λ r. ⌜ r ≡ some (sharesPlace (chartOf (now (vertices .entry)) (now (edges .entry)) (now (faces .entry)))) (rows (now (vertices .entry))) ⌝ }
 {
     let n = vertices.len() / 4;
+    let mut met = no_bucket();
     let mut v = 0;
     while v < n {
-        if some_below_at(vertices, v, chart::place_of(vertices, v)) {
-            return true;
+        let p = chart::place_of(vertices, v);
+        let b = bucket_of(p);
+        if met[b] {
+            if some_below_at(vertices, v, p) {
+                return true;
+            }
         }
+        met[b] = true;
         v += 1;
     }
     false
