@@ -82,15 +82,17 @@ pub fn some_share_place(vertices: &[i64], edges: &[usize], faces: &[usize]) -> b
     false
 }
 
-// Whether some vertex is strictly left of a to b.
+// Whether some vertex is strictly left of a to b: of the vector u from a, the side of q is u × q less u × a, so a is worked in once.
 fn some_left(vertices: &[i64], a: Place, b: Place) -> bool
     requires { ⌜ Gridded (now vertices) ⌝ ∗ ⌜ OnGrid a ⌝ ∗ ⌜ OnGrid b ⌝ }
     ensures { λ r. ⌜ r ≡ some (liesLeft (placeOf (now (vertices .entry))) a b) (rows (now (vertices .entry))) ⌝ }
 {
     let n = vertices.len() / 4;
+    let u = geometry::vector(a, b);
+    let k = geometry::cross(u, a);
     let mut v = 0;
     while v < n {
-        if geometry::is_on_left_side(a, b, chart::place_of(vertices, v)) {
+        if k < geometry::cross(u, chart::place_of(vertices, v)) {
             return true;
         }
         v += 1;
