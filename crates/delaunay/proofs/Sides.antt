@@ -7,7 +7,7 @@ use native.Mathlib.Omega.{arith}
 use lib.Dec.{ltb}
 use lib.IntN.{ℤ, pos, negsuc, subℕ, _-ℤ_}
 use lib.Signed.{ltZ}
-use borrow.Author.Tests.{lt-ltb, le-ltb, ltb-true, ltb-false}
+use borrow.Author.Tests.{lt-ltb, le-ltb, ltb-true}
 use Rattle.whole.specs.Bools.{same-test}
 use Rattle.geometry.specs.declared.Place.{Place}
 use Rattle.geometry.specs.Plane.{vectorOf, crossOf, side}

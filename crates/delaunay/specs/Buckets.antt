@@ -1,4 +1,4 @@
--- The buckets by which the scan of refusal 8 tells most places apart. Which bucket a place has is free: the answer does not depend on it.
+-- The buckets by which the scan of refusal 8 tells most places apart. No answer depends on which bucket a place has.
 use Prim.Native.Nat.{ℕ, _*_, _+_, _%_}
 use lib.IntN.{pos, _+ℤ_, _*ℤ_}
 use Rattle.geometry.specs.declared.Place.{Place}

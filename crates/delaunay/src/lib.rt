@@ -82,7 +82,7 @@ pub fn some_share_place(vertices: &[i64], edges: &[usize], faces: &[usize]) -> b
     false
 }
 
-// Whether some vertex is strictly left of a to b: of the vector u from a, the side of q is u × q less u × a, so a is worked in once.
+// Whether some vertex is strictly left of a to b: of the vector u from a, the side of q is u × q less u × a, so u × a is worked out once.
 fn some_left(vertices: &[i64], a: Place, b: Place) -> bool
     requires { ⌜ Gridded (now vertices) ⌝ ∗ ⌜ OnGrid a ⌝ ∗ ⌜ OnGrid b ⌝ }
     ensures { λ r. ⌜ r ≡ some (liesLeft (placeOf (now (vertices .entry))) a b) (rows (now (vertices .entry))) ⌝ }

@@ -1,13 +1,13 @@
 -- `delaunay::bucket_of` meets its contract: no step overflows. Assumes nothing.
-use Rattle.delaunay.specs.Buckets.{Lift, Spread}
-use Rattle.whole.specs.Bound.{Within, add-in, mul-in, fits, back}
-use lib.IntN.{pos}
 use native.Mathlib.Nat.{le-refl}
+use lib.IntN.{pos}
+use Rattle.whole.specs.Bound.{Within, add-in, mul-in, fits, back}
+use Rattle.delaunay.specs.Buckets.{Spread, Lift}
 use borrow.Author.Needs.{needs}
 use Rattle.delaunay.proofs.bucket_of.Statement.{statement}
 use Rattle.delaunay.proofs.bucket_of.Tie as tie
 
--- the weight and the lift are as large as they are
+-- the bounds of the weight and the lift
 weight-in : Within Spread (pos Spread)
 weight-in = record { abs = le-refl Spread }
 

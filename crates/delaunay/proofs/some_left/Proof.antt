@@ -1,6 +1,6 @@
 -- `delaunay::some_left` meets its contract. The loop's invariant: no number passed meets the test. Assumes nothing.
 use Prim.Native.Nat.{ℕ, _≤_, _<_, _-_}
-use mathlib.Core.Path.{_≡_, sym, ap, subst, _∙_}
+use mathlib.Core.Path.{_≡_, sym, ap, _∙_}
 use lib.Signed.{ltZ}
 use mir.Syntax.{w64}
 use mir.Val.{toZ, ofZ}
@@ -11,7 +11,7 @@ use borrow.Author.Count.{below-more}
 use Rattle.whole.specs.Bound.{back, same-in}
 use Rattle.whole.specs.First.{some-at, some-none}
 use Rattle.geometry.specs.declared.Place.{Place}
-use Rattle.geometry.specs.Plane.{OnGrid, Near, vectorOf, crossOf, vector-near, grid-near, cross-in}
+use Rattle.geometry.specs.Plane.{Near, vectorOf, crossOf, vector-near, grid-near, cross-in}
 use Rattle.chart.specs.Tables.{placeOf}
 use Rattle.delaunay.specs.Delaunay.{liesLeft}
 use Rattle.delaunay.proofs.Sides.{past-side}
@@ -29,6 +29,10 @@ abbrev μ-loop : tie.MeasureT-loop
 near : (c : tie.After-vector Inv-loop μ-loop) → Near (c .vector .result)
 near c = rw (c .vector .ensures) (vector-near (c .before .pre .1 .0) (c .before .pre .1 .1))
 
+-- and so is the vertex's place
+near-place : (c : tie.After-place-of Inv-loop μ-loop) → Near (c .place-of .result)
+near-place c = rw (c .place-of .ensures) (grid-near (c .before .before .before .before .before .pre .0 .places (c .before .before .loop .v) (c .before .loop-test .taken)))
+
 -- the test of a vertex is the definition's
 same : (c : tie.After-cross Inv-loop μ-loop) (i : ℕ) → ltZ (toZ w64 (ofZ w64 (c .cross .result))) (crossOf (c .before .vector .result) (placeOf (c .before .before .args .vertices .now) i)) ≡ liesLeft (placeOf (c .before .before .args .vertices .now)) (c .before .before .args .a) (c .before .before .args .b) i
 same c i =
@@ -37,10 +41,6 @@ same c i =
     let e : c .cross .result ≡ crossOf (vectorOf (s .args .a) (s .args .b)) (s .args .a) = c .cross .ensures ∙ ap (λ (u : Place). crossOf u (s .args .a)) (c .before .vector .ensures) in
     rw (e, c .before .vector .ensures, back (cross-in (vector-near (p .0) (p .1)) (grid-near (p .0))) tt)
     (past-side (s .args .a) (s .args .b) (placeOf (s .args .vertices .now) i))
-
--- and so is the vertex's place
-near-place : (c : tie.After-place-of Inv-loop μ-loop) → Near (c .place-of .result)
-near-place c = rw (c .place-of .ensures) (grid-near (c .before .before .before .before .before .pre .0 .places (c .before .before .loop .v) (c .before .loop-test .taken)))
 
 -- the product as the test reads it
 product : (c : tie.After-cross2 Inv-loop μ-loop) → toZ w64 (ofZ w64 (c .cross2 .result)) ≡ crossOf (c .before .before .before .before .before .vector .result) (placeOf (c .before .before .before .before .before .before .args .vertices .now) (c .before .before .before .loop .v))

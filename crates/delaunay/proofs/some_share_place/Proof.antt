@@ -1,13 +1,11 @@
 -- `delaunay::some_share_place` meets its contract. The loop's invariant: the buckets of the vertices passed are met, and none of them shares its place. Assumes nothing.
-use Prim.Native.Nat.{_+_, _≤_, _<_, _-_}
-use mathlib.Core.Path.{_≡_, sym, ap, subst, _∙_}
-use mathlib.Core.Bool.{false}
+use Prim.Native.Nat.{_≤_, _<_, _-_}
+use mathlib.Core.Path.{_≡_, sym, ap, _∙_}
 use mathlib.Core.Logic.{⊎-elim}
 use native.Mathlib.Nat.{lt-of-lt-of-le}
 use native.Mathlib.Omega.{arith}
 use Rattle.whole.specs.First.{some, some-at, some-none}
 use Rattle.geometry.specs.declared.Place.{Place}
-use Rattle.geometry.specs.Plane.{OnGrid}
 use Rattle.chart.specs.Tables.{placeOf}
 use Rattle.delaunay.specs.Delaunay.{standsAt}
 use Rattle.delaunay.specs.Buckets.{Buckets, bucketOf}
