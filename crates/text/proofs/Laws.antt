@@ -8,9 +8,9 @@ use native.Mathlib.Omega.{arith}
 use native.Mathlib.Decide.{ℕ-discrete}
 use native.Mathlib.Nat.{pow-succ', pow-le-pow-right, zero-add}
 use native.Mathlib.Numerals.{add-one}
-use lib.ListN.{length, drop, getD, length-append}
+use lib.ListN.{length, take, drop, getD, length-append, length-drop}
 use lib.IntN.{ℤ, pos, negsuc}
-use lib.Seq.{drop-cons}
+use lib.Seq.{take-all, drop-cons, drop-drop}
 use lib.Dec.{eqb, leb, lit<}
 use borrow.Author.Tests.{eq-eqb, ne-eqb, eqb-true, eqb-false, not-true, le-leb, leb-true, lt-ltb}
 use Rattle.whole.specs.Bools.{and-true}
@@ -20,6 +20,10 @@ use Rattle.text.specs.Natural.{isFigure, figures, plain, numberIf, below
 use Rattle.text.specs.declared.Field.the-variants.{Number, Malformed}
 
 -- ---- a byte at a time
+
+-- The part from i on is all that is left of a list of bytes.
+pub part-all : (s : List ℕ) (i : ℕ) → take (length s - i) (drop i s) ≡ drop i s
+part-all s i = take-all (length s - i) (drop i s) (simp length-drop (omega arith))
 
 -- A space more.
 pub spaces-more : (s : List ℕ) (i : ℕ) → i < length s → getD s i 0 ≡ 32 → spacesOf (drop i s) ≡ suc (spacesOf (drop (suc i) s))
@@ -31,10 +35,31 @@ pub spaces-end : (s : List ℕ) (i : ℕ) → i < length s → (getD s i 0 ≡ 3
 unfolding spacesOf
 spaces-end s i h e = rw (drop-cons s i 0 h, ne-eqb (getD s i 0) 32 e)
 
+-- Five spaces more at the start of a field.
+pub spaces-five : (s : List ℕ) → 4 < length s → getD s 0 0 ≡ 32 → getD s 1 0 ≡ 32 → getD s 2 0 ≡ 32 → getD s 3 0 ≡ 32 → getD s 4 0 ≡ 32
+    → spacesOf s ≡ 5 + spacesOf (drop 5 s)
+spaces-five s h p q r t u =
+    spaces-more s 0 (omega arith) p
+    ∙ omega (arith, spaces-more s 1 (omega arith) q, spaces-more s 2 (omega arith) r, spaces-more s 3 (omega arith) t, spaces-more s 4 h u)
+
+-- Four bytes that make the word of four spaces are spaces.
+pub word-spaces : (a b c d : ℕ) → a < 256 → b < 256 → c < 256 → a + b * 256 + c * 65536 + d * 16777216 ≡ 538976288 → (a ≡ 32) × (b ≡ 32) × (c ≡ 32) × (d ≡ 32)
+word-spaces a b c d p q r e = (omega arith, omega arith, omega arith, omega arith)
+
 -- Nothing begins with no space.
 pub spaces-none : spacesOf [] ≡ 0
 unfolding spacesOf
 spaces-none = refl
+
+-- Where spaces are passed, the digits are those of the rest.
+pub digits-after : (s : List ℕ) (i : ℕ) → spacesOf s ≡ i + spacesOf (drop i s) → digitsOf (drop i s) ≡ digitsOf s
+unfolding digitsOf
+digits-after s i e = drop-drop (spacesOf (drop i s)) i s ∙ ap (λ (k : ℕ). drop k s) (sym e)
+
+-- And the rest, where it begins with none.
+pub digits-at : (s : List ℕ) (i : ℕ) → i < length s → spacesOf s ≡ i + spacesOf (drop i s) → (getD s i 0 ≡ 32 → ⊥) → digitsOf s ≡ drop i s
+unfolding digitsOf
+digits-at s i h e n = let z : spacesOf s ≡ i = omega (arith, spaces-end s i h n) in ap (λ (k : ℕ). drop k s) z
 
 -- A digit more.
 pub value-more : (s : List ℕ) (i a : ℕ) → i < length s → valueOf a (drop i s) ≡ valueOf (a * 10 + (getD s i 0 - 48)) (drop (suc i) s)

@@ -1,7 +1,9 @@
 // Chart text: a field of 8 columns, and the whole number that it holds.
 ghost use mathlib.Core.Path.{_≡_};
-ghost use Prim.Native.Nat.{_-_, _≤_, _<_};
-ghost use lib.ListN.{length, getD};
+ghost use mathlib.Core.Bool.{true};
+ghost use mathlib.Core.List.{List};
+ghost use Prim.Native.Nat.{ℕ, _+_, _-_, _≤_, _<_};
+ghost use lib.ListN.{length, drop, getD};
 ghost use lib.Dec.{eqb};
 ghost use Rattle.text.specs.Field.{fieldWidth, spacesOf, digitsOf, fieldOf};
 ghost use Rattle.text.specs.Natural.{isFigure, figures, plain, numberIf, belowZero};
@@ -115,14 +117,60 @@ pub fn has_minus(d: &[u8]) -> bool
     d[0] == b'-'
 }
 
+// What a field with these digits holds.
+fn held(d: &[u8]) -> Field
+    requires { ⌜ length (now d) ≤ fieldWidth ⌝ }
+    ensures { λ r. ⌜ ((s : List ℕ) → 0 < length s → digitsOf s ≡ now (d .entry) → r ≡ fieldOf s) ⌝ }
+{
+    if has_minus(d) {
+        return below_zero(natural(&d[1..]));
+    }
+    natural(d)
+}
+
+// A byte as a number, for the word of four.
+fn wide(b: u8) -> u64
+    ensures { λ r. ⌜ (r ≡ b) × (r < 256) ⌝ }
+{
+    b as u64
+}
+
+// Four spaces as one word.
+const FOUR_SPACES: u64 = 538976288;
+
+// Whether a field begins with five spaces. Four are compared as one word: that is one load.
+fn blank(s: &[u8]) -> bool
+    requires { ⌜ length (now s) ≡ fieldWidth ⌝ }
+    ensures { λ r. ⌜ (r ≡ true → spacesOf (now (s .entry)) ≡ 5 + spacesOf (drop 5 (now (s .entry)))) ⌝ }
+{
+    let word = wide(s[0]) + wide(s[1]) * 256 + wide(s[2]) * 65536 + wide(s[3]) * 16777216;
+    if word != FOUR_SPACES {
+        return false;
+    }
+    s[4] == b' '
+}
+
+// The number of a field that begins with five spaces. Where the digits begin is a constant here, so that what reads them is compiled with no loop.
+fn short(s: &[u8]) -> Field
+    requires { ⌜ (length (now s) ≡ fieldWidth) × (spacesOf (now s) ≡ 5 + spacesOf (drop 5 (now s))) ⌝ }
+    ensures { λ r. ⌜ r ≡ fieldOf (now (s .entry)) ⌝ }
+{
+    if s[5] != b' ' {
+        return held(&s[5..]);
+    }
+    if s[6] != b' ' {
+        return held(&s[6..]);
+    }
+    held(digits(&s[7..]))
+}
+
 // The number of a field of 8 columns.
 pub fn read_field(s: &[u8]) -> Field
     requires { ⌜ length (now s) ≡ fieldWidth ⌝ }
     ensures { λ r. ⌜ r ≡ fieldOf (now (s .entry)) ⌝ }
 {
-    let d = digits(s);
-    if has_minus(d) {
-        return below_zero(natural(&d[1..]));
+    if blank(s) {
+        return short(s);
     }
-    natural(d)
+    held(digits(s))
 }

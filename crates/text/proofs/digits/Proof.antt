@@ -1,10 +1,9 @@
 -- `text::digits` meets its contract: the part after the spaces is all that is left of the field.
-use Prim.Native.Nat.{ℕ, _-_}
+use Prim.Native.Nat.{ℕ}
 use mathlib.Core.Path.{ap, _∙_}
-use native.Mathlib.Omega.{arith}
 use borrow.Author.Needs.{needs}
-use lib.ListN.{length, drop, length-drop}
-use lib.Seq.{take-all}
+use lib.ListN.{drop}
+use Rattle.text.proofs.Laws.{part-all}
 use Rattle.text.specs.Field.{digitsOf}
 use Rattle.text.proofs.digits.Statement.{statement}
 use Rattle.text.proofs.digits.Tie as tie
@@ -26,7 +25,7 @@ unfolding digitsOf
 returns c =
     let s = c .before .before .before .args .field .now in
     let i = c .before .spaces .result in
-    take-all (length s - i) (drop i s) (simp length-drop (omega arith)) ∙ ap (λ (k : ℕ). drop k s) (c .before .spaces .ensures .0)
+    part-all s i ∙ ap (λ (k : ℕ). drop k s) (c .before .spaces .ensures .0)
 
 pub digits-spec : {M : Type 1} → statement M
 digits-spec = tie.close (tie.spec spaces-requires sub-result part-result-start part-result-end returns)
