@@ -31,6 +31,16 @@ before-given : (l : List ℤ) (b : Bool) → before l (given b []) ≡ given b l
 before-given l true = ap cells (append-nil l)
 before-given l false = refl
 
+-- No numbers after.
+join-nil : (c : Cells) → join c (cells []) ≡ c
+join-nil (cells l) = ap cells (append-nil l)
+join-nil bad = refl
+
+-- A table of one line is that line.
+pub table-one : (w : ℕ) (s : List ℕ) → tableOf w 1 s ≡ lineOf w s
+unfolding tableOf
+table-one w s = join-nil (lineOf w s)
+
 -- A line that has a field.
 line-by : (w k : ℕ) → w ≡ suc k → (s : List ℕ) → lineOf w s ≡ join (cellOf (fieldOf (take fieldWidth s))) (lineOf k (drop fieldWidth s))
 unfolding lineOf
