@@ -14,6 +14,13 @@ from second import GRID as G, Chart, side, circle, refusal, parse, table_faults,
 # ---------------------------------------------------------------- Delaunay triangulation by sweep and exact flips
 
 
+def flip(opp, a, b):
+    """The other diagonal of the quadrilateral about edge a, b; its four sides."""
+    c, d = opp.pop((a, b)), opp.pop((b, a))
+    for x, y, z in ((a, d, c), (d, b, c)): opp[x, y], opp[y, z], opp[z, x] = z, x, y
+    return [(a, d), (d, b), (b, c), (c, a)]
+
+
 def delaunay(pts, rnd):
     """dict directed edge -> opposite corner of the face on its left, over indices of pts; None when all on a line."""
     order = sorted(range(len(pts)), key=lambda i: pts[i])
@@ -37,24 +44,18 @@ def delaunay(pts, rnd):
         (first,), (last,) = starts - ends, ends - starts
         nxt[first], nxt[p] = p, last
 
-    def flip(a, b):
-        c, d = opp.pop((a, b)), opp.pop((b, a))
-        face(a, d, c)
-        face(d, b, c)
-        return [(a, d), (d, b), (b, c), (c, a)]
-
     todo = list(opp)
     rnd.shuffle(todo)
     while todo:
         a, b = todo.pop()
         if (a, b) in opp and (b, a) in opp and circle(pts[a], pts[b], pts[opp[a, b]], pts[opp[b, a]]) > 0:
-            todo += flip(a, b)
+            todo += flip(opp, a, b)
     # co-circular ties: flip some at random (both diagonals are right)
     for a, b in rnd.sample(sorted(opp), len(opp)):
         if rnd.random() < 0.5 and (a, b) in opp and (b, a) in opp:
             c, d = opp[a, b], opp[b, a]
             if circle(pts[a], pts[b], pts[c], pts[d]) == 0 and side(pts[c], pts[d], pts[a]) != 0 and side(pts[c], pts[d], pts[b]) != 0:
-                flip(a, b)
+                flip(opp, a, b)
     return opp
 
 
@@ -421,6 +422,97 @@ def rims(rnd, write, accepted):
             write(p, 'expect.txt', '0 %s\n' % make.__name__.replace('_', ' '))
             write(p, 'queries.txt', query_text(q[:400]))
             write(p, 'log.txt', whole_log(entries(rnd, q, 30, 2)))
+
+
+# ---------------------------------------------------------------- charts that 11 alone refuses, and their like that it lets pass
+
+
+def flips(rnd, pts, opp, n, sign):
+    """Flips up to n edges of strictly convex quadrilaterals: whose corners are on a circle (sign 0: all stays right), that 11 refuses (1),
+    or others (-1: 11 then refuses them). Returns how many are left to do."""
+    for a, b in rnd.sample(sorted(opp), len(opp)):
+        if n == 0 or (a, b) not in opp or (b, a) not in opp: continue
+        A, B, C, D = [pts[i] for i in (a, b, opp[a, b], opp[b, a])]
+        t = circle(A, B, C, D)
+        if side(D, C, A) > 0 > side(D, C, B) and (t > 0) - (t < 0) == sign:
+            flip(opp, a, b)
+            n -= 1
+    return n
+
+
+def join(pts, opp, z):
+    """Joins z to the hull sides that it sees, or to the corners of the face that holds it; whether there are such."""
+    left = lambda a, b: side(pts[a], pts[b], pts[z])
+    sides = [(b, a) for a, b in opp if (b, a) not in opp and left(b, a) > 0]
+    if not sides: sides = next(([(a, b), (b, c), (c, a)] for (a, b), c in opp.items() if min(left(a, b), left(b, c), left(c, a)) > 0), [])
+    for a, b in sides: opp[a, b], opp[b, z], opp[z, a] = z, a, b
+    return sides != []
+
+
+def on_a_circle(rnd, most):
+    ring = large_circle(rnd)
+    return rnd.sample(ring, min(len(ring), most))
+
+
+def flipped(rnd, most, right):
+    """A Delaunay chart with one edge flipped, or several; where right, such as have their corners on a circle."""
+    P = on_a_circle(rnd, most) if right and rnd.random() < 0.5 else points(rnd, most)[1]
+    opp = delaunay(P, rnd) if len(P) > 3 else None
+    n = rnd.choice([1, 1, 1, 2, 3, 12, 99])
+    if opp is None or flips(rnd, P, opp, n, 0 if right else -1) == n: return None
+    return chart_of(P, opp, values(rnd, P), rnd)
+
+
+def joined(rnd, most, right):
+    """A Delaunay chart and one more test, joined without the flips that it calls for, or with one or two of them. It is inside the circles of
+    faces far away, and only edges near it show that. Where right, it is on their circle or a step outside."""
+    kind = 'circle' if right else rnd.choice(['circle', 'any', 'curve', 'circle', 'curve'])
+    if kind == 'any': P = points(rnd, most)[1]
+    if kind == 'circle':
+        P, step = on_a_circle(rnd, most), rnd.choice([0, 1]) if right else -1
+        P[-1] = tuple(n + step * ((n > 0) - (n < 0)) for n in P[-1])
+    if kind == 'curve':  # as f23
+        P = [(64 * i, 3000 - i * (i + 1) // 2) for i in range(most - 4)] + [(-8500, 8500), (2000, 5500), (9500, -7000)]
+        P.append((rnd.randint(-1600, -1400), rnd.randint(2400, 2600)))
+    opp = delaunay(P[:-1], rnd) if len(P) > 3 else None
+    if opp is None or not join(P, opp, len(P) - 1): return None
+    flips(rnd, P, opp, rnd.choice([0, 0, 0, 1, 2]), 1)
+    return chart_of(P, opp, values(rnd, P), rnd)
+
+
+def pressed(c):
+    """The edges across which the third corner of one face is strictly inside the circle of the other."""
+    across = lambda h: circle(c.frm(h), c.to(h), c.frm(c.prv(h)), c.frm(c.prv(h ^ 1)))
+    return [h // 2 for h in range(0, len(c.h), 2) if c.face(h) and c.face(h ^ 1) and across(h) > 0]
+
+
+def renumbered(c, order):
+    """The chart whose edge i is c's edge order[i]."""
+    new = {k: i for i, k in enumerate(order)}
+    at = lambda h: 2 * new[h // 2] + h % 2
+    half = [None] * len(c.h)
+    for h, (o, n, p, f) in enumerate(c.h): half[at(h)] = [o, at(n), at(p), f]
+    return Chart([r[:3] + [at(r[3])] for r in c.v], half, [at(a) for a in c.f])
+
+
+def circles(rnd, write, accepted, maxv):
+    """A port may test 11 across each edge, and not every vertex against every circle: the edges that show it are the last ones, the first
+    ones or any, and many crowded faces are far from them. Every fifth chart is right, every fourth has up to 128 vertices."""
+    for letter, make in (('w', flipped), ('y', joined)):
+        for i in range(max(10, accepted // 5)):
+            c, right, show = None, i % 5 == 4, []
+            while c is None or right == (show != []):
+                c = make(rnd, 128 if i % 4 == 0 else max(4, min(maxv, rnd.choice([4, 5, 6, 8, 12, 30, 64, 128]))), right)
+                show = pressed(c) if c else []
+            rest = [k for k in range(len(c.h) // 2) if k not in show]
+            c = renumbered(c, [rest + show, show + rest, sorted(rest + show)][i % 3])
+            p, t = '%s%04d' % (letter, i), c.text()
+            n = refusal(t)
+            assert n == (0 if right else 11), (p, n)  # by every vertex and circle the same as by edges
+            write(p, 'chart.txt', t)
+            write(p, 'expect.txt', '%d %s\n' % (n, make.__name__))
+            write(p, 'rooms.txt', '%d\n%d\n' % (len(c.h) - 1, len(c.h)))
+            if right: write(p, 'queries.txt', query_text(queries(rnd, c)[:6]))
 
 
 # ---------------------------------------------------------------- damage
@@ -947,6 +1039,7 @@ def main():
         write(p, 'batch.txt', list_text(rnd, q))
         if refusal(b) == 0: write(p, 'queries.txt', query_text(queries(loads, parse(b)[1])))
     rims(random.Random('rims %d' % seed), write, na)
+    circles(random.Random('circles %d' % seed), write, na, maxv)
     print('accepted:', dict(kinds))
     print('damaged, by refusal:', dict(sorted(refusals.items())))
     print('clauses of 7:', dict(clauses.most_common(40)))

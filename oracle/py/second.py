@@ -511,7 +511,7 @@ def one_batch(t, b, room, ent):
 def suite(d, first_only=False, only=None):
     cases = lines = 0
     bad = []
-    for name in sorted(os.listdir(d), key=lambda s: ('xgkhlsubdrqpvatf'.find(s[0]), s)):
+    for name in sorted(os.listdir(d), key=lambda s: ('xgkhlsubdwrqpyvatf'.find(s[0]), s)):
         p = os.path.join(d, name)
         if not os.path.isdir(p): continue
         rd = lambda f: open(os.path.join(p, f), 'rb').read() if os.path.exists(os.path.join(p, f)) else None
