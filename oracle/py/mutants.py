@@ -4,7 +4,8 @@ Equivalent, so alive for good: 'segment open at one end only' (the vertex at q c
 with 7 to 10, no vertex inside a neighbour's circle means none inside any); '7 without the last half-edge', '10 without ..' and
 '11 without ..' (what they refuse comes in pairs: with 7 for all half-edges but one, it holds for that one; a reflex corner of the hull
 offends two half-edges by two vertices; an edge that 11 refuses offends two faces by two vertices); 'written: 129 vertices' (the writer is
-lent no more rows than a file has). No test shows these, a proof does. A mutant that breaks off is noticed too.
+lent no more rows than a file has); '11 by edges' (the same lemma) and '.., the outer face not left out' (what it meets beyond the rim is a
+vertex too, and one inside a circle is refused rightly). No test shows these, a proof does. A mutant that breaks off is noticed too.
 
     mutants.py [--only KINDS] DIR [SKIP]   DIR: a suite with the answers of the Rust oracle; SKIP: leave out the first mutants;
                                            --only: by these kinds of lines alone
@@ -152,6 +153,42 @@ M = [
     ('written: six digits', "''.join('%8d' % n for n in r)", "''.join('%8d' % (n % 1000000 if n > 0 else n) for n in r)"),
     ('log: 512 are too many', "len(log) > 41 * 512", "len(log) >= 41 * 512"),
 ]
+
+# 11 across each edge, as a port may test it after 7 to 10, and mistakes in that
+FACES = """    for f in range(1, nf):
+        k = c.corners(f)
+        if any(circle(*k, c.at(i)) > 0 for i in range(nv)): return 11
+"""
+EDGES = """    for h in range(0, nh, 2):
+        if c.face(h) and c.face(h ^ 1) and circle(c.frm(h), c.to(h), c.frm(c.prv(h)), c.frm(c.prv(h ^ 1))) > 0: return 11
+"""
+TEN = """    for h in range(nh):
+        if c.face(h) == 0 and any(side(c.frm(h), c.to(h), c.at(i)) > 0 for i in range(nv)): return 10
+"""
+RIM = "for r in [{c.org(e) for e in range(nh) if c.face(e) == 0}]"
+M += [('11 by edges' + name, FACES, EDGES.replace(old, new)) for name, old, new in [
+    ('', "return 11", "return 11"),
+    (', the outer face not left out', "c.face(h) and c.face(h ^ 1) and ", ""),
+    (': the own corner', "c.frm(c.prv(h ^ 1))", "c.frm(c.prv(h))"),
+    (': an end of the edge', "c.frm(c.prv(h ^ 1))", "c.frm(c.nxt(h ^ 1))"),
+    (': on the circle', "> 0: return", ">= 0: return"),
+    (': clockwise', "c.frm(h), c.to(h), c.frm", "c.to(h), c.frm(h), c.frm"),
+    (': a third of the half-edges', "range(0, nh, 2)", "range(0, nh // 3 * 2, 2)"),
+    (': half-edge k for edge k', "range(0, nh, 2)", "range(nh // 2)"),
+    (': every second edge', "range(0, nh, 2)", "range(0, nh, 4)"),
+    (': as many edges as faces', "range(0, nh, 2)", "range(0, 2 * nf, 2)"),
+    (': 256 edges', "range(0, nh, 2)", "range(0, min(nh, 512), 2)"),
+    (': without the last edge', "range(0, nh, 2)", "range(0, nh - 2, 2)"),
+    (': without the first edge', "range(0, nh, 2)", "range(2, nh, 2)"),
+    (': ends at the first edge of the rim', "        if c.face(h) and c.face(h ^ 1) and ", "        if 0 in (c.face(h), c.face(h ^ 1)): break\n        if "),
+    (': ends at the first outer half-edge', "        if c.face(h) and ", "        if c.face(h) == 0: break\n        if "),
+    (': adjacent half-edges only', "range(0, nh, 2)", "c.f"),
+    (': towards a later face only', "c.face(h) and c.face(h ^ 1) and", "0 < c.face(h) < c.face(h ^ 1) and"),
+    (': towards an earlier face only', "c.face(h) and c.face(h ^ 1) and", "0 < c.face(h ^ 1) < c.face(h) and"),
+    (': without edges that end on the rim', "c.face(h) and c.face(h ^ 1) and", "not any(c.org(h) in r or c.org(h ^ 1) in r %s) and" % RIM),
+    (': without edges between two of the rim', "c.face(h) and c.face(h ^ 1) and", "c.face(h) and c.face(h ^ 1) and not any(c.org(h) in r and c.org(h ^ 1) in r %s) and" % RIM),
+    (': without the faces at the rim', "c.face(h) and c.face(h ^ 1) and", "c.face(h) and c.face(h ^ 1) and all(c.face(e ^ 1) for e in (c.nxt(h), c.prv(h), c.nxt(h ^ 1), c.prv(h ^ 1))) and"),
+]] + [('11 by edges: before 10', TEN + FACES, EDGES + TEN)]
 
 
 def run(text, d, only):
