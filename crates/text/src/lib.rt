@@ -56,7 +56,7 @@ pub fn figure(b: u8) -> u64
     if b < b'0' {
         return 0;
     }
-    (b - b'0') as u64
+    b as u64 - 48
 }
 
 // The number that digits make, in one pass; malformed at the first byte that is none.
