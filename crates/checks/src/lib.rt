@@ -1,20 +1,21 @@
 // The refusals 6 to 11 of three tables, and their half-edges and faces taken over as unsigned numbers once 6 has let them pass.
 ghost use mathlib.Core.Path.{_≡_};
-ghost use Prim.Native.Nat.{_≤_, _%_};
+ghost use Prim.Native.Nat.{_*_, _≤_, _%_};
 ghost use lib.ListN.{length};
 ghost use Rattle.chart.specs.Limits.{MostVertices};
 ghost use Rattle.chart.specs.Tables.{rows, unsignedAll};
 ghost use Rattle.chart.specs.Chart.{chartOf, InRange};
+ghost use Rattle.checks.specs.Taken.{Unsigned};
 ghost use Rattle.checks.specs.Checks.{chartRefusal, tablesRefusal, told};
 
-// A table of numbers that 6 has let pass, as unsigned ones.
+// A table of numbers that 6 has let pass, as unsigned ones: none is negative, so that this is a plain copy.
 fn take_over(signed: &[i64], table: &mut [usize])
-    requires { ⌜ length (now table) ≡ length (now signed) ⌝ }
+    requires { ⌜ length (now table) ≡ length (now signed) ⌝ ∗ ⌜ Unsigned (now signed) ⌝ }
     ensures { λ r. ⌜ now (table .exit) ≡ unsignedAll (now (signed .entry)) ⌝ }
 {
     let mut i = 0;
     while i < signed.len() {
-        table[i] = chart::to_unsigned(signed[i]);
+        table[i] = signed[i] as usize;
         i += 1;
     }
 }
@@ -51,7 +52,7 @@ pub fn tables_refusal(
     edges: &mut [usize],
     faces: &mut [usize],
 ) -> u64
-    requires { ⌜ rows (now vertices) ≤ MostVertices ⌝ ∗ ⌜ rows (now edgecells) % 2 ≡ 0 ⌝ ∗ ⌜ length (now edges) ≡ length (now edgecells) ⌝ ∗ ⌜ length (now faces) ≡ length (now facecells) ⌝ }
+    requires { ⌜ rows (now vertices) ≤ MostVertices ⌝ ∗ ⌜ rows (now edgecells) % 2 ≡ 0 ⌝ ∗ ⌜ length (now edges) ≡ length (now edgecells) ⌝ ∗ ⌜ length (now faces) ≡ length (now facecells) ⌝ ∗ ⌜ length (now edgecells) ≡ 4 * rows (now edgecells) ⌝ }
     ensures { λ r. ⌜ told (tablesRefusal (now (vertices .entry)) (now (edgecells .entry)) (now (facecells .entry))) (now (vertices .entry)) (unsignedAll (now (edgecells .entry))) (unsignedAll (now (facecells .entry))) ≡ told r (now (vertices .entry)) (now (edges .exit)) (now (faces .exit)) ⌝ }
 {
     if ranges::out_of_range(vertices, edgecells, facecells) {

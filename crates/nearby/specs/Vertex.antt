@@ -8,7 +8,7 @@ use native.Mathlib.Decide.{ℕ-discrete}
 use lib.Dec.{eqb}
 use lib.IntN.{ℤ, pos, _+ℤ_, _-ℤ_, +ℤ-idr, -ℤ-+ℤ-cancel}
 use borrow.Author.Tests.{eq-eqb, ne-eqb, eqb-true}
-use Rattle.whole.specs.Poly.{var, con, _⊕_, _⊖_, env, agree, solve!}
+use Rattle.whole.specs.Poly.{var, con, _⊕_, _⊖_, env, agree, solve! }
 use Rattle.whole.specs.Bools.{and-true, and-left}
 use Rattle.whole.specs.First.{some-or-none}
 use Rattle.whole.specs.Bound.{Within, sub-in}

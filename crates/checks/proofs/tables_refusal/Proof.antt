@@ -2,6 +2,7 @@
 use mathlib.Core.Path.{sym, _∙_}
 use Rattle.ranges.specs.Passed.{in-range}
 use Rattle.checks.specs.Checks.{tablesRefusal}
+use Rattle.checks.specs.Taken.{edges-unsigned, faces-unsigned}
 use borrow.Author.Needs.{needs}
 use Rattle.checks.proofs.tables_refusal.Statement.{statement}
 use Rattle.checks.proofs.tables_refusal.Tie as tie
@@ -14,10 +15,16 @@ unfolding tablesRefusal
 returns c = rw (sym (c .before .out-of-range .ensures) ∙ c .if1 .taken)
 
 take-over-requires : tie.Need-take-over-requires
-take-over-requires c κs = search needs
+take-over-requires c κs =
+    let s = c .before .before .before .before .before in
+    let f = sym (c .before .before .out-of-range .ensures) ∙ c .before .if1 .left in
+    (s .pre .1 .1 .0, edges-unsigned (s .args .vertices .now) (s .args .edgecells .now) (s .args .facecells .now) f (s .pre .1 .1 .1 .1))
 
 take-over-requires-2 : tie.Need-take-over-requires-2
-take-over-requires-2 c κs = search needs
+take-over-requires-2 c κs =
+    let s = c .before .before .before .before .before .before .before .before .before in
+    let f = sym (c .before .before .before .before .before .before .out-of-range .ensures) ∙ c .before .before .before .before .before .if1 .left in
+    (s .pre .1 .1 .1 .0, faces-unsigned (s .args .vertices .now) (s .args .edgecells .now) (s .args .facecells .now) f)
 
 chart-refusal-requires : tie.Need-chart-refusal-requires
 chart-refusal-requires c κs =

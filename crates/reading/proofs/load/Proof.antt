@@ -20,6 +20,9 @@ quarter-most n h = omega arith
 quarter-even : (n : ℕ) → n % 2 ≡ 0 → 4 * n / 4 % 2 ≡ 0
 quarter-even n h = omega arith
 
+quarter-whole : (n : ℕ) → 4 * n ≡ 4 * (4 * n / 4)
+quarter-whole n = omega arith
+
 edge-room-requires : tie.Need-edge-room-requires
 edge-room-requires c κs = search needs
 
@@ -90,7 +93,7 @@ tables-refusal-requires c κs =
     let z : length (take (a .f) (r .last .1 .1 .1 .1 .1 .1 .0)) ≡ a .f = length-take-le _ _ (search needs) in
     let u : length (take (4 * a .e) (a .edges .now)) ≡ 4 * a .e = length-take-le _ _ (search needs) in
     let w : length (take (a .f) (a .faces .now)) ≡ a .f = length-take-le _ _ (search needs) in
-    (rw x (quarter-most (a .v) (p .v-most)), (rw y (quarter-even (a .e) (p .e-even)), (u ∙ sym y, w ∙ sym z)))
+    (rw x (quarter-most (a .v) (p .v-most)), (rw y (quarter-even (a .e) (p .e-even)), (u ∙ sym y, (w ∙ sym z, rw y (quarter-whole (a .e))))))
 
 same-length-2 : tie.Need-same-length-2
 same-length-2 c = search needs

@@ -29,7 +29,7 @@ tables-refusal-requires : tie.Need-tables-refusal-requires
 tables-refusal-requires c κs =
     let s = c .before .before .before .before in
     let p = s .pre .0 in
-    (p .v-most, (p .e-even, (length-take-le _ _ (search needs), length-take-le _ _ (search needs))))
+    (p .v-most, (p .e-even, (length-take-le _ _ (search needs), (length-take-le _ _ (search needs), s .pre .1))))
 
 returns : tie.Need-returns
 returns c =
