@@ -378,6 +378,14 @@ pub field-unsigned : (s : List ℕ) → 0 < length s → eqb (getD (digitsOf s) 
 unfolding candidate
 field-unsigned s h m = unsigned-by s h (rw m refl) (plain (digitsOf s)) refl
 
+-- A field whose digits begin with '1' to '9', or a byte after them.
+pub field-first : (s d : List ℕ) → 0 < length s → digitsOf s ≡ d → 48 < getD d 0 0 → numberIf (figures d) d ≡ fieldOf s
+field-first s [] h e l = absurd (omega arith)
+field-first s (b ∷ d) h e l =
+    let m : eqb (getD (digitsOf s) 0 0) 45 ≡ false = rw e (ne-eqb b 45 (λ q. omega arith)) in
+    let p : plain (b ∷ d) ≡ figures (b ∷ d) = plain-figures (b ∷ d) (omega arith) (λ q r. omega arith) in
+    sym (field-unsigned s h m ∙ ap (λ (t : List ℕ). numberIf (plain t) t) e ∙ ap (λ (t : Bool). numberIf t (b ∷ d)) p)
+
 -- A number after a minus sign is the candidate.
 minus-candidate : (s e : List ℕ) (n : ℕ) → digitsOf s ≡ 45 ∷ e → valueOf 0 e ≡ n → candidate s ≡ signed true n
 unfolding candidate
@@ -422,3 +430,20 @@ minus-some d e = rw (minus-first d e) (omega arith)
 pub field-minus : (s : List ℕ) → 0 < length s → eqb (getD (digitsOf s) 0 0) 45 ≡ true
     → fieldOf s ≡ belowZero (numberIf (plain (drop 1 (digitsOf s))) (drop 1 (digitsOf s)))
 field-minus s h m = let e = drop 1 (digitsOf s) in minus-by s e h (minus-first (digitsOf s) m) (valueOf 0 e) refl (plain e) refl
+
+-- The cases of `field-last`.
+last-by : (s : List ℕ) (b : ℕ) → 0 < length s → digitsOf s ≡ digitsOf (b ∷ []) → Dec (b ≡ 32) → Dec (b ≡ 45) → numberIf (figures (b ∷ [])) (b ∷ []) ≡ fieldOf s
+unfolding figures plain digitsOf spacesOf
+last-by s b h e (yes p) q =
+    let d : digitsOf s ≡ [] = e ∙ digits-space b [] p .1 in
+    rw p (sym (field-unsigned s h (rw d refl) ∙ rw d refl))
+last-by s b h e (no p) (yes q) =
+    let d : digitsOf s ≡ b ∷ [] = e ∙ digits-other b [] p .1 in
+    rw q (sym (field-minus s h (rw (d, q) refl) ∙ rw d refl))
+last-by s b h e (no p) (no q) =
+    let d : digitsOf s ≡ b ∷ [] = e ∙ digits-other b [] p .1 in
+    sym (field-unsigned s h (rw d (ne-eqb b 45 q)) ∙ rw d refl)
+
+-- A field with spaces in all columns but the last.
+pub field-last : (s : List ℕ) (b : ℕ) → 0 < length s → digitsOf s ≡ digitsOf (b ∷ []) → numberIf (figures (b ∷ [])) (b ∷ []) ≡ fieldOf s
+field-last s b h e = last-by s b h e (ℕ-discrete b 32) (ℕ-discrete b 45)

@@ -151,17 +151,24 @@ fn blank(s: &[u8]) -> bool
 }
 
 // The number of a field that begins with five spaces. Where the digits begin is a constant here, so that what reads them is compiled with no loop.
+// A byte after '0' is no space, no sign and no leading zero: one test for the three.
 fn short(s: &[u8]) -> Field
     requires { ⌜ (length (now s) ≡ fieldWidth) × (spacesOf (now s) ≡ 5 + spacesOf (drop 5 (now s))) ⌝ }
     ensures { λ r. ⌜ r ≡ fieldOf (now (s .entry)) ⌝ }
 {
+    if b'0' < s[5] {
+        return number(&s[5..]);
+    }
     if s[5] != b' ' {
         return held(&s[5..]);
+    }
+    if b'0' < s[6] {
+        return number(&s[6..]);
     }
     if s[6] != b' ' {
         return held(&s[6..]);
     }
-    held(digits(&s[7..]))
+    number(&s[7..])
 }
 
 // The number of a field of 8 columns.
