@@ -50,6 +50,7 @@ pub fn is_figure(b: u8) -> bool
 }
 
 // What a digit counts. A byte before '0' counts 0, so that no caller has a range to show.
+// It is widened first: else the sum in `number` is compiled in bytes, widened again at each digit.
 pub fn figure(b: u8) -> u64
     ensures { λ r. ⌜ r ≡ b - 48 ⌝ }
 {
