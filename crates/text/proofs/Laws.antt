@@ -35,12 +35,21 @@ pub spaces-end : (s : List ℕ) (i : ℕ) → i < length s → (getD s i 0 ≡ 3
 unfolding spacesOf
 spaces-end s i h e = rw (drop-cons s i 0 h, ne-eqb (getD s i 0) 32 e)
 
--- Five spaces more at the start of a field.
-pub spaces-five : (s : List ℕ) → 4 < length s → getD s 0 0 ≡ 32 → getD s 1 0 ≡ 32 → getD s 2 0 ≡ 32 → getD s 3 0 ≡ 32 → getD s 4 0 ≡ 32
-    → spacesOf s ≡ 5 + spacesOf (drop 5 s)
-spaces-five s h p q r t u =
-    spaces-more s 0 (omega arith) p
-    ∙ omega (arith, spaces-more s 1 (omega arith) q, spaces-more s 2 (omega arith) r, spaces-more s 3 (omega arith) t, spaces-more s 4 h u)
+-- One of the spaces that a field begins with.
+pub space-at : (s : List ℕ) (i : ℕ) → i < spacesOf s → getD s i 0 ≡ 32
+unfolding spacesOf
+space-at [] i h = absurd (omega arith)
+space-at (b ∷ s) i h = pick (space-at s) i (ℕ-discrete b 32) h
+  where
+    pick : ((i : ℕ) → i < spacesOf s → getD s i 0 ≡ 32) → (i : ℕ) → Dec (b ≡ 32) → i < spacesOf (b ∷ s) → getD (b ∷ s) i 0 ≡ 32
+    pick rest zero (yes e) l = e
+    pick rest (suc i) (yes e) l = rest i (let m = rw (eq-eqb b 32 e) at l in omega arith)
+    pick rest i (no e) l = let m = rw (ne-eqb b 32 e) at l in absurd (omega arith)
+
+-- Spaces passed, and those that begin the rest.
+pub spaces-pass : (s : List ℕ) (i : ℕ) → i ≤ length s → ((k : ℕ) → k < i → getD s k 0 ≡ 32) → spacesOf s ≡ i + spacesOf (drop i s)
+spaces-pass s zero l h = sym (zero-add (spacesOf s))
+spaces-pass s (suc i) l h = spaces-pass s i (omega arith) (λ k m. h k (omega arith)) ∙ omega (arith, spaces-more s i (omega arith) (h i (omega arith)))
 
 -- Four bytes that make the word of four spaces are spaces.
 pub word-spaces : (a b c d : ℕ) → a < 256 → b < 256 → c < 256 → a + b * 256 + c * 65536 + d * 16777216 ≡ 538976288 → (a ≡ 32) × (b ≡ 32) × (c ≡ 32) × (d ≡ 32)

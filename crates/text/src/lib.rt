@@ -1,10 +1,9 @@
 // Chart text: a field of 8 columns, and the whole number that it holds.
 ghost use mathlib.Core.Path.{_≡_};
-ghost use mathlib.Core.Bool.{true};
 ghost use mathlib.Core.List.{List};
-ghost use Prim.Native.Nat.{ℕ, _+_, _-_, _≤_, _<_};
-ghost use lib.ListN.{length, drop, getD};
-ghost use lib.Dec.{eqb};
+ghost use Prim.Native.Nat.{ℕ, _-_, _≤_, _<_};
+ghost use lib.ListN.{length, getD};
+ghost use lib.Dec.{eqb, leb};
 ghost use Rattle.text.specs.Field.{fieldWidth, spacesOf, digitsOf, fieldOf};
 ghost use Rattle.text.specs.Natural.{isFigure, figures, plain, numberIf, belowZero};
 
@@ -142,7 +141,7 @@ const FOUR_SPACES: u64 = 538976288;
 // Whether a field begins with five spaces. Four are compared as one word: that is one load.
 fn blank(s: &[u8]) -> bool
     requires { ⌜ length (now s) ≡ fieldWidth ⌝ }
-    ensures { λ r. ⌜ (r ≡ true → spacesOf (now (s .entry)) ≡ 5 + spacesOf (drop 5 (now (s .entry)))) ⌝ }
+    ensures { λ r. ⌜ r ≡ leb 5 (spacesOf (now (s .entry))) ⌝ }
 {
     let word = wide(s[0]) + wide(s[1]) * 256 + wide(s[2]) * 65536 + wide(s[3]) * 16777216;
     if word != FOUR_SPACES {
@@ -154,7 +153,7 @@ fn blank(s: &[u8]) -> bool
 // The number of a field that begins with five spaces. Where the digits begin is a constant here, so that what reads them is compiled with no loop.
 // A byte after '0' is no space, no sign and no leading zero: one test for the three.
 fn short(s: &[u8]) -> Field
-    requires { ⌜ (length (now s) ≡ fieldWidth) × (spacesOf (now s) ≡ 5 + spacesOf (drop 5 (now s))) ⌝ }
+    requires { ⌜ (length (now s) ≡ fieldWidth) × (5 ≤ spacesOf (now s)) ⌝ }
     ensures { λ r. ⌜ r ≡ fieldOf (now (s .entry)) ⌝ }
 {
     if b'0' < s[5] {

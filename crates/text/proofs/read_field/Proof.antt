@@ -1,6 +1,7 @@
 -- `text::read_field` meets its contract: a field is read by its digits, and those after five spaces more quickly.
 use borrow.Author.Needs.{needs}
-use mathlib.Core.Path.{ap, sym}
+use borrow.Author.Tests.{leb-true}
+use mathlib.Core.Path.{ap, sym, _∙_}
 use native.Mathlib.Omega.{arith}
 use lib.ListN.{length}
 use Rattle.text.proofs.Laws.{pad-length}
@@ -11,7 +12,7 @@ blank-requires : tie.Need-blank-requires
 blank-requires c κs = search needs
 
 short-requires : tie.Need-short-requires
-short-requires c κs = (search needs, c .before .blank .ensures (c .if1 .taken))
+short-requires c κs = (search needs, leb-true 5 _ (sym (c .before .blank .ensures) ∙ c .if1 .taken))
 
 returns : tie.Need-returns
 returns c = search needs

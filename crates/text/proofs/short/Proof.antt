@@ -1,6 +1,6 @@
 -- `text::short` meets its contract: the digits begin after the spaces that were passed, and are all that is left of the field.
 use borrow.Author.Needs.{needs}
-use Prim.Native.Nat.{ℕ, _+_, _-_, _<_}
+use Prim.Native.Nat.{ℕ, _+_, _-_, _≤_, _<_}
 use mathlib.Core.List.{List, [], _∷_}
 use mathlib.Core.Path.{_≡_, ap, sym, _∙_}
 use native.Mathlib.Omega.{arith}
@@ -8,9 +8,13 @@ use lib.ListN.{length, take, drop, getD, drop-of-length-le}
 use lib.Seq.{drop-cons}
 use Rattle.text.specs.Field.{spacesOf, digitsOf, fieldOf}
 use Rattle.text.specs.Natural.{figures, numberIf}
-use Rattle.text.proofs.Laws.{part-all, spaces-more, digits-at, digits-after, field-first, field-last}
+use Rattle.text.proofs.Laws.{part-all, space-at, spaces-pass, spaces-more, digits-at, digits-after, field-first, field-last}
 use Rattle.text.proofs.short.Statement.{statement}
 use Rattle.text.proofs.short.Tie as tie
+
+-- The spaces of the first five columns are passed.
+five : (s : List ℕ) → length s ≡ 8 → 5 ≤ spacesOf s → spacesOf s ≡ 5 + spacesOf (drop 5 s)
+five s h l = spaces-pass s 5 (omega arith) (λ k m. space-at s k (omega arith))
 
 -- What is read from column i on, where a digit from '1' on stands there.
 first : (s : List ℕ) (i : ℕ) → i < length s → spacesOf s ≡ i + spacesOf (drop i s) → 48 < getD s i 0
@@ -39,7 +43,10 @@ number-requires : tie.Need-number-requires
 number-requires c κs = search needs
 
 returns : tie.Need-returns
-returns c = let s = c .before .before .before .before .before .args .s .now in c .number .ensures ∙ first s 5 (omega arith) (omega arith) (omega arith)
+returns c =
+    let a = c .before .before .before .before .before in
+    let s = a .args .s .now in
+    c .number .ensures ∙ first s 5 (omega arith) (five s (a .pre .0) (a .pre .1)) (omega arith)
 
 shared-slice-read-if2 : tie.Need-shared-slice-read-if2
 shared-slice-read-if2 c = search needs
@@ -58,8 +65,9 @@ held-requires c κs = search needs
 
 returns-2 : tie.Need-returns-2
 returns-2 c =
-    let s = c .before .before .before .before .before .before .before .args .s .now in
-    c .held .ensures s (omega arith) (digits-at s 5 (omega arith) (omega arith) (λ e. omega arith) ∙ sym (part-all s 5))
+    let a = c .before .before .before .before .before .before .before in
+    let s = a .args .s .now in
+    c .held .ensures s (omega arith) (digits-at s 5 (omega arith) (five s (a .pre .0) (a .pre .1)) (λ e. omega arith) ∙ sym (part-all s 5))
 
 shared-slice-read-if3 : tie.Need-shared-slice-read-if3
 shared-slice-read-if3 c = search needs
@@ -78,8 +86,9 @@ number-requires-2 c κs = search needs
 
 returns-3 : tie.Need-returns-3
 returns-3 c =
-    let s = c .before .before .before .before .before .before .before .before .before .args .s .now in
-    c .number2 .ensures ∙ first s 6 (omega arith) (omega (arith, spaces-more s 5 (omega arith) (omega arith))) (omega arith)
+    let a = c .before .before .before .before .before .before .before .before .before in
+    let s = a .args .s .now in
+    c .number2 .ensures ∙ first s 6 (omega arith) (omega (arith, five s (a .pre .0) (a .pre .1), spaces-more s 5 (omega arith) (omega arith))) (omega arith)
 
 shared-slice-read-if4 : tie.Need-shared-slice-read-if4
 shared-slice-read-if4 c = search needs
@@ -98,9 +107,11 @@ held-requires-2 c κs = search needs
 
 returns-4 : tie.Need-returns-4
 returns-4 c =
-    let s = c .before .before .before .before .before .before .before .before .before .before .before .args .s .now in
+    let a = c .before .before .before .before .before .before .before .before .before .before .before in
+    let s = a .args .s .now in
+    let f = five s (a .pre .0) (a .pre .1) in
     let t = spaces-more s 5 (omega arith) (omega arith) in
-    c .held2 .ensures s (omega arith) (digits-at s 6 (omega arith) (omega (arith, t)) (λ e. omega arith) ∙ sym (part-all s 6))
+    c .held2 .ensures s (omega arith) (digits-at s 6 (omega arith) (omega (arith, f, t)) (λ e. omega arith) ∙ sym (part-all s 6))
 
 sub-number-3 : tie.Need-sub-number-3
 sub-number-3 c = search needs
@@ -116,10 +127,12 @@ number-requires-3 c κs = search needs
 
 returns-5 : tie.Need-returns-5
 returns-5 c =
-    let s = c .before .before .before .before .before .before .before .before .before .before .before .args .s .now in
+    let a = c .before .before .before .before .before .before .before .before .before .before .before in
+    let s = a .args .s .now in
+    let f = five s (a .pre .0) (a .pre .1) in
     let t = spaces-more s 5 (omega arith) (omega arith) in
     let u = spaces-more s 6 (omega arith) (omega arith) in
-    c .number3 .ensures ∙ last s (omega arith) (omega (arith, t, u))
+    c .number3 .ensures ∙ last s (omega arith) (omega (arith, f, t, u))
 
 pub short-spec : {M : Type 1} → statement M
 short-spec =
