@@ -1,8 +1,9 @@
 // Tables of chart text: lines of fields, each line with its line end.
 ghost use mathlib.Core.Path.{_≡_};
-ghost use Prim.Native.Nat.{ℕ, _+_, _*_, _≤_, _<_};
-ghost use lib.ListN.{length, drop, getD};
+ghost use Prim.Native.Nat.{_+_, _*_, _≤_, _<_};
+ghost use lib.ListN.{length, drop};
 ghost use Rattle.text.specs.Field.{fieldWidth};
+ghost use Rattle.tables.specs.Starts.{Starts};
 ghost use Rattle.tables.specs.Table.{FieldsMax, LinesMax, lineOf, tableOf, given, lineBytes};
 use text::COLUMNS;
 use text::Field;
@@ -12,14 +13,14 @@ const STARTS: [usize; 5] = [0, 8, 16, 24, 32];
 
 // The table of starts, made once for all lines.
 fn field_starts() -> [usize; 5]
-    ensures { λ r. ⌜ ((k : ℕ) → k < FieldsMax → getD r k 0 ≡ fieldWidth * k) ⌝ }
+    ensures { λ r. ⌜ Starts r ⌝ }
 {
     STARTS
 }
 
 // Where field `j` starts.
 fn start(starts: &[usize; 5], j: usize) -> usize
-    requires { ⌜ ((k : ℕ) → k < FieldsMax → getD (now starts) k 0 ≡ fieldWidth * k) ⌝ }
+    requires { ⌜ Starts (now starts) ⌝ }
     requires { ⌜ j < FieldsMax ⌝ }
     ensures { λ r. ⌜ r ≡ fieldWidth * j ⌝ }
 {
@@ -28,7 +29,7 @@ fn start(starts: &[usize; 5], j: usize) -> usize
 
 // One line from `at`: a field for each element of `row`, then the line end. Whether it is well formed; then `row` has its numbers.
 fn fields(starts: &[usize; 5], text: &[u8], at: usize, row: &mut [i64]) -> bool
-    requires { ⌜ ((k : ℕ) → k < FieldsMax → getD (now starts) k 0 ≡ fieldWidth * k) ⌝ }
+    requires { ⌜ Starts (now starts) ⌝ }
     requires { ⌜ (length (now row) ≤ FieldsMax) × (at + fieldWidth * length (now row) < length (now text)) ⌝ }
     ensures { λ r. ⌜ lineOf (length (now (row .entry))) (drop at (now (text .entry))) ≡ given r (now (row .exit)) ⌝ }
 {

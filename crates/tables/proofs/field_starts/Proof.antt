@@ -19,7 +19,7 @@ starts a b c d e (suc (suc (suc (suc zero)))) p q r s t h = t
 starts a b c d e (suc (suc (suc (suc (suc j))))) p q r s t h = absurd (omega arith)
 
 returns : tie.Need-returns
-returns c = λ k h. starts _ _ _ _ _ k refl refl refl refl refl h
+returns c = record { at = λ k h. starts _ _ _ _ _ k refl refl refl refl refl h }
 
 pub field-starts-spec : {M : Type 1} → statement M
 field-starts-spec = tie.close (tie.spec returns)

@@ -10,7 +10,7 @@ element-copy-out-result : tie.Need-element-copy-out-result
 element-copy-out-result c = search needs
 
 returns : tie.Need-returns
-returns c = c .before .pre .0 (c .before .args .j) (c .before .pre .1)
+returns c = c .before .pre .0 .at (c .before .args .j) (c .before .pre .1)
 
 pub start-spec : {M : Type 1} → statement M
 start-spec = tie.close (tie.spec mul-result element-copy-out-result returns)
