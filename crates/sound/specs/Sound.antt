@@ -3,13 +3,12 @@ use mathlib.Core.Path.{_≡_, sym, subst, ap, _∙_}
 use mathlib.Core.Logic.{_⊎_, inl, inr}
 use Prim.Native.Nat.{ℕ, _<_}
 use native.Mathlib.Omega.{arith}
-use lib.IntN.{pos, _-ℤ_}
 use borrow.Author.Tests.{eqb-true, eqb-false, not-true}
 use Rattle.whole.specs.Sign.{Above}
 use Rattle.geometry.specs.declared.Place.{Place}
 use Rattle.geometry.specs.Plane.{side}
-use Rattle.geometry.specs.Laws.{side-back, side-turn}
-use Rattle.chart.specs.Chart.{Chart, partner, partner-twice, InRange, corner₂}
+use Rattle.geometry.specs.Laws.{side-turn}
+use Rattle.chart.specs.Chart.{Chart, partner, InRange, corner₂}
 use Rattle.sound.specs.Tests.{Passed, above-zero, links-at, out-at, adjacent-at, lone-at, place-at, turn-at, rim-at, three-at, of-face-at}
 
 -- where half-edge h starts and ends; of an inner one, the third corner of its face
@@ -33,8 +32,6 @@ pub record Sound (c : Chart) : Type 0 where
   -- an inner face, and row 6
   pub faces-two : 1 < c .faces
   pub range : InRange c
-  -- the partner goes the other way
-  pub partner-side : (h : ℕ) (q : Place) → side (start c (partner h)) (end c (partner h)) q ≡ pos 0 -ℤ side (start c h) (end c h) q
   -- next goes on where h ends, next and prev are inverse to each other, both keep the face
   pub next-start : (h : ℕ) → h < c .halfEdges → c .origin (c .next h) ≡ c .origin (partner h)
   pub prev-next : (h : ℕ) → h < c .halfEdges → c .prev (c .next h) ≡ h
@@ -152,7 +149,6 @@ module _ (c : Chart) (n : 1 < c .faces) (r : InRange c) (p : Passed c) where
       record {
         faces-two = n;
         range = r;
-        partner-side = λ h q. ap (λ (k : ℕ). side (end c h) (c .place (c .origin k)) q) (partner-twice h) ∙ side-back (start c h) (end c h) q;
         next-start = starts;
         prev-next = back;
         next-prev = forth;
