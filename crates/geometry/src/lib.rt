@@ -92,13 +92,13 @@ pub fn contained_in_circumference(a: Place, b: Place, c: Place, q: Place) -> boo
     requires { ⌜ OnGrid a ⌝ ∗ ⌜ OnGrid b ⌝ ∗ ⌜ OnGrid c ⌝ ∗ ⌜ OnGrid q ⌝ }
     ensures { λ r. ⌜ r ≡ ltZ (pos 0) (circle a b c q) ⌝ }
 {
-    0
-        < minor(
-            side_query(a, b, q),
-            ends_seen(a, b, c),
-            side_query(a, b, c),
-            ends_seen(a, b, q),
-        )
+    let determinant = minor(
+        side_query(a, b, q),
+        ends_seen(a, b, c),
+        side_query(a, b, c),
+        ends_seen(a, b, q),
+    );
+    0 < determinant
 }
 
 // Whether a place is off the grid: 6 of a vertex, 13 of a load.
