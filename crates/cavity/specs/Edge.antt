@@ -1,4 +1,4 @@
--- On an inner edge of an accepted chart both faces pass the circle test and are opened, so four edges at least are listed. Assumes nothing.
+-- On an inner edge of a sound chart both faces pass the circle test and are opened, so four edges at least are listed. Assumes nothing.
 use mathlib.Core.Path.{_≡_, refl, sym, ap, subst, _∙_}
 use mathlib.Core.Logic.{_⊎_, inl, inr, ⊎-elim}
 use mathlib.Core.Bool.{Bool, true, false, _||_}

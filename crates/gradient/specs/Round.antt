@@ -1,4 +1,4 @@
--- The turn about a vertex of an accepted chart: it is back at its start within as many steps as there are half-edges, so its bound is never what stops
+-- The turn about a vertex of a sound chart: it is back at its start within as many steps as there are half-edges, so its bound is never what stops
 -- it, and every half-edge that it meets starts at the vertex. Assumes nothing.
 use mathlib.Core.Path.{_≡_, sym, ap, subst, _∙_}
 use mathlib.Core.Bool.{Bool, true, false, cond}
