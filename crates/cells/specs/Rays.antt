@@ -17,6 +17,7 @@ unfoldable pub kap : S → S → S → ℤ
 unfolding ev
 kap a b s = cond (ev (dn a & up b & up s)) (pos 1) (cond (ev (up a & dn b & dn s)) (negsuc 0) (pos 0))
 
+-- the crossings of a triangle's three sides, by the signs of its corners to the ray and of q to its sides
 abbrev pub om : S → S → S → S → S → S → ℤ
 om a b c x y z = kap a b z +ℤ kap b c x +ℤ kap c a y
 

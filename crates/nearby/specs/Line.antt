@@ -54,6 +54,7 @@ module _ (c : Chart) (snd : Sound c) (q : Place) where
   Differ ρ = (v w : ℕ) → v < c .vertices → w < c .vertices → (v ≡ w → ⊥) → Off (ray ρ q (c .place v) -ℤ ray ρ q (c .place w))
 
   module _ (ρ : Place) (dif : Differ ρ) where
+    -- what the origin of h is to the ray: above 0 on the left of its line, below 0 on the right
     abbrev pub al : ℕ → ℤ
     al h = ray ρ q (c .place (c .origin h))
 

@@ -8,6 +8,7 @@ use lib.Dec.{eqb}
 use lib.IntN.{ℤ, pos, negℤ, _+ℤ_, +ℤ-idl, +ℤ-idr, negℤ-+ℤ}
 use borrow.Author.Tests.{eq-eqb, ne-eqb, eqb-true, eqb-false}
 use mathlib.Core.List.{[], _∷_}
+use Rattle.whole.specs.Bools.{same-test}
 use Rattle.whole.specs.Poly.{var, _⊕_, env, agree, solve! }
 use mathlib.Core.Logic.{_⊎_, inl, inr}
 use Rattle.signs.specs.Signs.{Pos, Neg, Zero, High, eq-zero}
@@ -93,12 +94,8 @@ pub without-other : (k : ℕ) (g : ℕ → ℤ) (i : ℕ) → (i ≡ k → ⊥) 
 without-other k g i e = rw (ne-eqb i k e)
 
 -- a sum in another order
-same-test : (i j k l : ℕ) → (i ≡ j → k ≡ l) → (k ≡ l → i ≡ j) → eqb i j ≡ eqb k l
-same-test i j k l f g = step (eqb i j) refl
-  where
-    step : (b : Bool) → eqb i j ≡ b → eqb i j ≡ eqb k l
-    step true e = e ∙ sym (eq-eqb k l (f (eqb-true i j e)))
-    step false e = e ∙ sym (ne-eqb k l (λ q. eqb-false i j e (g q)))
+same-eqb : (i j k l : ℕ) → (i ≡ j → k ≡ l) → (k ≡ l → i ≡ j) → eqb i j ≡ eqb k l
+same-eqb i j k l f g = same-test (eqb i j) (eqb k l) (λ e. eq-eqb k l (f (eqb-true i j e))) (λ e. eq-eqb i j (g (eqb-true k l e)))
 
 pub sum-perm : (g : ℕ → ℤ) (p r : ℕ → ℕ) (n : ℕ) → ((i : ℕ) → i < n → p i < n) → ((i : ℕ) → i < n → r i < n) → ((i : ℕ) → i < n → r (p i) ≡ i) → ((i : ℕ) → i < n → p (r i) ≡ i) → sum (λ i. g (p i)) n ≡ sum g n
 sum-perm g p r n pi ri rp pr =
@@ -117,7 +114,7 @@ sum-perm g p r n pi ri rp pr =
     gather : (k : ℕ) → k < n → sum (λ i. only (p i) (g k) k) n ≡ g k
     gather k l =
         sum-ext (λ i. only (p i) (g k) k) (only (r k) (g k)) n
-        (λ i h. ap (λ (b : Bool). cond b (g k) (pos 0)) (same-test k (p i) i (r k) (λ e. sym (rp i h) ∙ sym (ap r e)) (λ e. sym (pr k l) ∙ sym (ap p e))))
+        (λ i h. ap (λ (b : Bool). cond b (g k) (pos 0)) (same-eqb k (p i) i (r k) (λ e. sym (rp i h) ∙ sym (ap r e)) (λ e. sym (pr k l) ∙ sym (ap p e))))
         ∙ sum-only (r k) (g k) n (ri k l)
 
 -- ---- sums of numbers that are at least 0

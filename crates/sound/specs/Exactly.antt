@@ -7,7 +7,7 @@ use Prim.Native.Nat.{ℕ, _<_}
 use native.Mathlib.Nat.{lt-irrefl}
 use lib.Dec.{eqb, ltb}
 use borrow.Author.Tests.{eq-eqb, ne-eqb, eqb-true, eqb-false, ltb-true}
-use Rattle.whole.specs.Bools.{and-true, is-false}
+use Rattle.whole.specs.Bools.{or-first, or-second, and-true, is-false}
 use Rattle.whole.specs.Test.{eqZ, eqZ-true}
 use Rattle.whole.specs.First.{some, some-none}
 use Rattle.whole.specs.Sign.{Above, test-above, above-test}
@@ -43,18 +43,10 @@ module _ (c : Chart) (a : Sound c) where
       d : ℕ
       d = c .adjacent (c .face h)
 
-      right : (x y : Bool) → y ≡ true → (x || y) ≡ true
-      right true y e = refl
-      right false y e = e
-
-      left : (x y : Bool) → x ≡ true → (x || y) ≡ true
-      left true y e = refl
-      left false y e = absurd (false≢true e)
-
       pick : (h ≡ d) ⊎ ((h ≡ c .next d) ⊎ (h ≡ c .prev d)) → (eqb h d || (eqb h (c .next d) || eqb h (c .prev d))) ≡ true
-      pick (inl e) = left (eqb h d) _ (eq-eqb h d e)
-      pick (inr (inl e)) = right (eqb h d) _ (left (eqb h (c .next d)) _ (eq-eqb h (c .next d) e))
-      pick (inr (inr e)) = right (eqb h d) _ (right (eqb h (c .next d)) _ (eq-eqb h (c .prev d) e))
+      pick (inl e) = or-first (eqb h d) _ (eq-eqb h d e)
+      pick (inr (inl e)) = or-second (eqb h d) _ (or-first (eqb h (c .next d)) _ (eq-eqb h (c .next d) e))
+      pick (inr (inr e)) = or-second (eqb h d) _ (or-second (eqb h (c .next d)) _ (eq-eqb h (c .prev d) e))
 
   every-linked : (h : ℕ) → h < c .halfEdges → unlinked c h ≡ false
   unfolding linked

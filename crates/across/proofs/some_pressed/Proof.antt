@@ -1,11 +1,12 @@
 -- `across::some_pressed` meets its contract. The loop's invariant: no number passed meets the test. Assumes nothing.
-use Prim.Native.Nat.{ℕ, _≤_, _<_, _-_}
+use Prim.Native.Nat.{ℕ, _≤_, _<_, _-_, _/_}
 use mathlib.Core.Path.{_≡_, sym, _∙_}
 use mathlib.Core.Bool.{false}
 use native.Mathlib.Nat.{lt-of-lt-of-le, not-suc-le-zero}
 use native.Mathlib.Omega.{arith}
 use borrow.Author.Count.{below-more}
 use Rattle.whole.specs.First.{some-at, some-none}
+use Rattle.chart.specs.Tables.{rows}
 use Rattle.chart.specs.Chart.{chartOf}
 use Rattle.across.specs.Across.{pressed}
 use borrow.Author.Needs.{needs}
@@ -28,7 +29,11 @@ is-pressing-requires : tie.Need-is-pressing-requires Inv-loop μ-loop
 is-pressing-requires c κs = search needs
 
 returns : tie.Need-returns Inv-loop μ-loop
-returns c = sym (some-at _ _ _ (c .before .before .loop-test .taken) (sym (c .before .is-pressing .ensures) ∙ c .if1 .taken))
+returns c =
+    let a = c .before .before .before .before .before .before .args in
+    let d = chartOf (a .vertices .now) (a .edges .now) (a .faces .now) in
+    let l : c .before .before .before .loop .k < rows (a .edges .now) / 2 = omega arith in
+    sym (some-at (pressed d) (rows (a .edges .now) / 2) (c .before .before .before .loop .k) l (sym (c .before .is-pressing .ensures) ∙ c .if1 .taken))
 
 add-k : tie.Need-add-k Inv-loop μ-loop
 add-k c = search needs
