@@ -1,7 +1,11 @@
-/* The public calls of Estivolh for C: wear charts and the rope book. Version 1.2.1.
+/* The public calls of Estivolh for C: wear charts and the rope book. Version 1.3.0.
  *
  * Link libestivolh_c.a (rt staticlib estivolh_c writes it, for x86-64 Linux); of the C library it needs memcpy and memset.
  *
+ * NEW IN 1.3.0, and it breaks callers' source where they name it: ESTIVOLH_REFUSED_NO_PLACE is now ESTIVOLH_REFUSED_BROKEN_TURN. Its number
+ * is 15 as before, and a broken turn is all that it means: every load on an accepted chart has a place, so that estivolh_locate,
+ * estivolh_barycentric_weights, estivolh_natural_neighbor_edges and values by method 1 never return it. All else is as in 1.2.1: what is
+ * compiled already links and runs as before. CHANGELOG.md.
  * NEW IN 1.2.1: charts are checked faster; callers change nothing.
  * NEW IN 1.2.0: estivolh_write_chart, and refusal 18, which no other call gives. All else is as in 1.1.0; callers change nothing.
  * NEW IN 1.1.0, and it breaks callers' source: the names of the refusals begin with ESTIVOLH_REFUSED_ (ESTIVOLH_OUTSIDE is now
@@ -48,7 +52,7 @@ extern "C" {
 #endif
 
 /* The version of this header and the library: 10000 * major + 100 * minor + patch. */
-#define ESTIVOLH_VERSION 10201
+#define ESTIVOLH_VERSION 10300
 
 /* Whoever drops a call's number takes a refused call for an accepted one, so a compiler that can is told to warn. */
 #if defined(__GNUC__)
@@ -77,8 +81,7 @@ enum estivolh_refusal {
     ESTIVOLH_REFUSED_UNKNOWN = 12,      /* a kind, section, vertex number or method that is unknown; a splice whose x, y or method isn't 0 */
     ESTIVOLH_REFUSED_OFF_GRID = 13,     /* x or y not -10000 to 10000 */
     ESTIVOLH_REFUSED_OUTSIDE = 14,      /* outside the chart's hull; of estivolh_locate it is an answer, ESTIVOLH_OUTSIDE_OF_HULL */
-    ESTIVOLH_REFUSED_NO_PLACE = 15,     /* no place found; for natural weights, and values by methods 2 and 3, a broken turn about a
-                                           neighbour */
+    ESTIVOLH_REFUSED_BROKEN_TURN = 15,  /* a broken turn about a natural neighbour: natural weights, and values by methods 2 and 3, alone */
     ESTIVOLH_REFUSED_NO_CHARGE = 16,    /* the value is not a number, below -0.5, or at least 1000000.5 */
     ESTIVOLH_REFUSED_FULL = 17,         /* the charge would take wear and retired wear together above 10^12, or the section has 10^12 bends */
     ESTIVOLH_REFUSED_TEXT_ROOM = 18     /* the lent buffer is shorter than the text */
@@ -118,15 +121,16 @@ uint64_t estivolh_check(const uint8_t *chart, size_t chart_length);
 
 /* Where the load at (x, y) lies. position has a stated length of 2.
  * Writes position[0], the kind (enum estivolh_position), and position[1], the number of the vertex, half-edge or face; of a load outside
- * the hull, that of the lowest outer half-edge which it lies strictly left of. Outside is an answer of this call, no refusal.
- * Refusals: 2, 3 to 11, 13, 15. */
+ * the hull, that of the lowest outer half-edge which it lies strictly left of. Outside is an answer of this call, no refusal: every load on
+ * the grid has a position, and lies on a vertex, on an edge, on a face or outside, on one of these alone.
+ * Refusals: 2, 3 to 11, 13. */
 ESTIVOLH_MUST_CHECK
 uint64_t estivolh_locate(const uint8_t *chart, size_t chart_length, int64_t x, int64_t y, uint64_t *position, size_t position_length);
 
 /* The barycentric weights of the load at (x, y). vertices and weights have a stated length of 3, found of 1.
  * Writes found[0], how many vertices there are, n: 1 on a vertex, 2 on an edge, 3 on a face; the vertices into the first n elements of
  * vertices, their weights into the first n of weights. Where n is below 3, vertices[n], weights[n] and those after them are as they were.
- * Refusals: 2, 3 to 11, 13, 14, 15. */
+ * Refusals: 2, 3 to 11, 13, 14. */
 ESTIVOLH_MUST_CHECK
 uint64_t estivolh_barycentric_weights(const uint8_t *chart, size_t chart_length, int64_t x, int64_t y, uint64_t *vertices,
                                       size_t vertices_length, double *weights, size_t weights_length, uint64_t *found, size_t found_length);
@@ -134,7 +138,7 @@ uint64_t estivolh_barycentric_weights(const uint8_t *chart, size_t chart_length,
 /* The natural neighbour edges of the load at (x, y). found has a stated length of 2. edges must have as many elements as the chart has
  * half-edges: 2 is tested for it right after 4, as the chart's first line has to be read.
  * Writes found[0], how many edges there are, n, and found[1], how many faces the search opened; the edges, as numbers of half-edges in the
- * search's order, into the first n elements of edges. Refusals: 2, 3 to 11, 13, 14, 15. */
+ * search's order, into the first n elements of edges. Refusals: 2, 3 to 11, 13, 14. */
 ESTIVOLH_MUST_CHECK
 uint64_t estivolh_natural_neighbor_edges(const uint8_t *chart, size_t chart_length, int64_t x, int64_t y, uint64_t *edges,
                                          size_t edges_length, uint64_t *found, size_t found_length);
@@ -156,7 +160,7 @@ uint64_t estivolh_estimate_gradient(const uint8_t *chart, size_t chart_length, u
 
 /* The wear of a bend at (x, y), by a method (enum estivolh_method). value has a stated length of 1.
  * Writes value[0], the wear, not rounded; it may be one that estivolh_charge refuses with 16.
- * Refusals: 2, 3 to 11, 12 (method unknown), 13, 14, 15. */
+ * Refusals: 2, 3 to 11, 12 (method unknown), 13, 14; by methods 2 and 3 also 15. */
 ESTIVOLH_MUST_CHECK
 uint64_t estivolh_interpolate(const uint8_t *chart, size_t chart_length, int64_t method, int64_t x, int64_t y, double *value,
                               size_t value_length);

@@ -7,7 +7,7 @@ use native.Mathlib.Nat.{lt-of-lt-of-le}
 use lib.Dec.{lit<}
 use lib.IntN.{pos}
 use Rattle.whole.specs.Bound.{outside}
-use Rattle.whole.specs.Sign.{Above}
+use Rattle.signs.specs.Signs.{Pos}
 use Rattle.geometry.specs.Plane.{circle}
 use Rattle.geometry.specs.Laws.{circle-turn}
 use Rattle.chart.specs.Chart.{Chart, InRange}
@@ -25,15 +25,15 @@ pub record Accepted (c : Chart) : Type 0 where
   -- the other numbers of row 6, and rows 7 to 10
   pub sound : Sound c
   -- row 11: no vertex is strictly inside the circle of an inner face, seen from any of its half-edges
-  pub empty-circle : (h z : ℕ) → Inner c h → z < c .vertices → Above (circle (start c h) (end c h) (apex c h) (c .place z)) → ⊥
+  pub empty-circle : (h z : ℕ) → Inner c h → z < c .vertices → Pos (circle (start c h) (end c h) (apex c h) (c .place z)) → ⊥
 
 -- 11 at every half-edge of a face
-hollow : (c : Chart) (snd : Sound c) → Passed c → (h z : ℕ) → Inner c h → z < c .vertices → Above (circle (start c h) (end c h) (apex c h) (c .place z)) → ⊥
+hollow : (c : Chart) (snd : Sound c) → Passed c → (h z : ℕ) → Inner c h → z < c .vertices → Pos (circle (start c h) (end c h) (apex c h) (c .place z)) → ⊥
 hollow c snd p h z (l, i) m a =
     let f = c .face h in
     let g = c .adjacent f in
     circle-at c p f z (above-zero f i) (snd .range .face-numbers h l) m
-    (subst Above
+    (subst Pos
     (ap (λ (v : ℕ). circle (start c h) (c .place v) (apex c h) (c .place z)) (sym (snd .next-start h l)) ∙ circ-adjacent c snd h (c .place z) l i
     ∙ sym (circle-turn (apex c g) (start c g) (c .place (c .origin (c .next g))) (c .place z)))
     a)

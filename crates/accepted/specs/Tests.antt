@@ -7,7 +7,8 @@ use lib.Dec.{ltb}
 use borrow.Author.Tests.{lt-ltb}
 use Rattle.whole.specs.Bools.{and-left}
 use Rattle.whole.specs.First.{some, none-at}
-use Rattle.whole.specs.Sign.{Above, above-test}
+use Rattle.signs.specs.Signs.{Pos}
+use Rattle.signs.specs.Order.{pos-test}
 use Rattle.geometry.specs.Plane.{circle}
 use Rattle.chart.specs.Chart.{Chart, corner₀, corner₁, corner₂}
 use Rattle.links.specs.Links.{linksBroken}
@@ -36,7 +37,7 @@ passed c e =
 
 module _ (c : Chart) (p : Passed c) where
   -- ---- 11
-  pub circle-at : (f z : ℕ) → 0 < f → f < c .faces → z < c .vertices → Above (circle (c .place (corner₀ c f)) (c .place (corner₁ c f)) (c .place (corner₂ c f)) (c .place z)) → ⊥
+  pub circle-at : (f z : ℕ) → 0 < f → f < c .faces → z < c .vertices → Pos (circle (c .place (corner₀ c f)) (c .place (corner₁ c f)) (c .place (corner₂ c f)) (c .place z)) → ⊥
   circle-at f z i l m a =
       let n = and-left (ltb 0 f) (some (λ v. inCircle c (c .place v) f) (c .vertices)) (none-at (crowded c) (c .faces) (p .circles) f l) (lt-ltb 0 f i) in
-      false≢true (sym (none-at (λ v. inCircle c (c .place v) f) (c .vertices) n z m) ∙ above-test a)
+      false≢true (sym (none-at (λ v. inCircle c (c .place v) f) (c .vertices) n z m) ∙ pos-test a)

@@ -10,7 +10,7 @@ use lib.ListN.{length}
 use lib.Signed.{ltZ}
 use borrow.Author.Tests.{eqb-false, eq-eqb}
 use Rattle.whole.specs.Bools.{or-false}
-use Rattle.whole.specs.Sign.{above-test}
+use Rattle.signs.specs.Order.{pos-test}
 use Rattle.faceset.specs.Set.{none, add}
 use Rattle.faceset.specs.Laws.{cases, count-two}
 use Rattle.geometry.specs.declared.Place.{Place}
@@ -30,7 +30,7 @@ module _ (c : Chart) (a : Sound c) where
   unfolding inCircle
   edge-circle q h i e =
       ap (ltZ (pos 0)) (circle-turn (apex c h) (start c h) (end c h) q)
-      ∙ above-test (chord-inside (start c h) (end c h) (apex c h) q e (a .turns-left h i))
+      ∙ pos-test (chord-inside (start c h) (end c h) (apex c h) q e (a .turns-left h i))
 
   -- the partner's segment is the same
   partner-edge : (q : Place) (h : ℕ) → onEdge c q h ≡ true → onEdge c q (partner h) ≡ true

@@ -11,7 +11,7 @@ use Rattle.faceset.specs.Laws.{cases}
 use Rattle.geometry.specs.declared.Place.{Place}
 use Rattle.chart.specs.Chart.{Chart, partner, InRange, partner-in}
 use Rattle.locate.specs.declared.Location.{Location}
-use Rattle.locate.specs.declared.Location.the-variants.{OnVertex, OnEdge, OnFace, OutsideOfConvexHull, NoPlace}
+use Rattle.locate.specs.declared.Location.the-variants.{OnVertex, OnEdge, OnFace, OutsideOfConvexHull}
 use Rattle.locate.specs.Laws.{Holds}
 use Rattle.flips.specs.Search.{Found, found, inspectAll}
 use Rattle.neighbors.specs.Neighbors.{starts, finished, faceNeighbors, innerEdgeNeighbors, edgeNeighbors, partOfConvexHull, neighborsOf}
@@ -59,7 +59,6 @@ module _ (c : Chart) (q : Place) (r : InRange c) where
       searched (starts c f) (found (add f none) [])
       (cons (partner-in r _ (r .nexts _ a)) (cons (partner-in r _ a) (cons (partner-in r _ (r .prevs _ a)) nil))) nil
   edges-in (OutsideOfConvexHull h) k = nil
-  edges-in NoPlace k = nil
 
   pub listed-below : (l : Location) → Holds c q l → (k : ℕ) → k < length (neighborsOf c q l .edges) → getD (neighborsOf c q l .edges) k 0 < c .halfEdges
   listed-below l h = all-at c (edges-in l h)

@@ -15,7 +15,7 @@ use Rattle.geometry.specs.declared.Place.{Place}
 use Rattle.chart.specs.Chart.{Chart, partner}
 use Rattle.accepted.specs.Accepted.{Accepted}
 use Rattle.locate.specs.declared.Location.{Location}
-use Rattle.locate.specs.declared.Location.the-variants.{OnVertex, OnEdge, OnFace, OutsideOfConvexHull, NoPlace}
+use Rattle.locate.specs.declared.Location.the-variants.{OnVertex, OnEdge, OnFace, OutsideOfConvexHull}
 use Rattle.locate.specs.Laws.{Holds}
 use Rattle.flips.specs.Search.{found, inspectAll}
 use Rattle.neighbors.specs.Neighbors.{starts, finished, faceNeighbors, innerEdgeNeighbors, edgeNeighbors, partOfConvexHull, neighborsOf}
@@ -99,4 +99,3 @@ module _ (c : Chart) (a : Accepted c) where
       (cases (partOfConvexHull c h))
   list-within q (OnFace f) k = omega (arith, face-length c q (a .sound .range) f (k .0), face-most q f, more-edges)
   list-within q (OutsideOfConvexHull h) k = omega arith
-  list-within q NoPlace k = omega arith

@@ -1,12 +1,12 @@
 -- One triangle a b c, a place q and a line or a ray. Assumes nothing.
 use mathlib.Core.Path.{_≡_, sym, ap, _∙_}
 use mathlib.Core.Logic.{_⊎_, inl, inr}
-use lib.IntN.{ℤ, _+ℤ_, _-ℤ_, -ℤ-+ℤ-cancel, +ℤ-idl}
+use lib.IntN.{ℤ, _+ℤ_, _-ℤ_, _*ℤ_, -ℤ-+ℤ-cancel, +ℤ-idl}
 use Rattle.geometry.specs.declared.Place.{Place}
 use Rattle.geometry.specs.Plane.{dotOf, side}
-use Rattle.signs.specs.Signs.{below, nil, above, sg, flip, _⊙_, up, dn, ze, lo, hi, ne, fail, _⇒_, _&_, _or_, ev, Is, Pos, Neg, Zero, Low, High, Off, fire, left, right, test2, test3, test4, every2, every3, every4, zero-eq, bal, bal-mul, bal-mul3, add3}
-use Rattle.signs.specs.Order.{sign-of, pos-sg, neg-sg, zero-sg, neg-high, square2-high, square2-zero, neg-nil}
-use Rattle.cells.specs.Points.{dots, ray, parts, flat, reverse, open-parts, ray-parts, dot-back, back}
+use Rattle.signs.specs.Signs.{below, nil, above, sg, flip, _⊙_, up, dn, ze, lo, hi, ne, fail, _⇒_, _&_, _or_, ev, Is, Pos, Neg, Zero, Low, High, Off, fire, left, right, either, test2, test3, test4, every2, every3, every4, zero-eq, sg-mul, bal, bal-mul, bal-mul3, lin, add3}
+use Rattle.signs.specs.Order.{sign-of, pos-sg, neg-sg, zero-sg, neg-high, pos-neg, square2-high, square2-zero, neg-pos, neg-nil, sub-flip}
+use Rattle.cells.specs.Points.{dots, ray, parts, flat, reverse, open-parts, ray-parts, affine, dot-back, back}
 
 -- two places that are not one
 abbrev pub Apart : Place → Place → Type 0
@@ -16,7 +16,7 @@ pub sq-high : (a q : Place) → High (dots a a q)
 unfolding dotOf
 sq-high a q = square2-high (a .x -ℤ q .x) (a .y -ℤ q .y)
 
-same-of : (u v : ℤ) → Zero (u -ℤ v) → u ≡ v
+pub same-of : (u v : ℤ) → Zero (u -ℤ v) → u ≡ v
 same-of u v h = sym (-ℤ-+ℤ-cancel u v) ∙ ap (λ (z : ℤ). z +ℤ v) (zero-eq h) ∙ +ℤ-idl v
 
 pub sq-zero : (a q : Place) → Zero (dots a a q) → (a .x ≡ q .x) × (a .y ≡ q .y)
@@ -126,9 +126,75 @@ ray-on ρ q a b c z =
     rw (zero-sg z) at (bal-mul3 (ray ρ q a) (side b c q) (ray ρ q b) (side c a q) (ray ρ q c) (side a b q) (ray-parts ρ q a b c)) in
     fire (every3 (λ x y t. bal x y (t ⊙ nil) nil ⇒ bal x y nil nil) tt (sg (ray ρ q a) ⊙ sg (side b c q)) (sg (ray ρ q b) ⊙ sg (side c a q)) (sg (ray ρ q c))) s
 
+-- where a ray from it has a and b on different sides, it is strictly left of the other two
+pub ray-left : (ρ q a b c : Place) → Pos (side a b c) → Zero (side a b q) → Is (up (sg (ray ρ q a)) & dn (sg (ray ρ q b)) or dn (sg (ray ρ q a)) & up (sg (ray ρ q b))) → Pos (side b c q) × Pos (side c a q)
+unfolding test4 _⊙_ flip
+ray-left ρ q a b c d z h =
+    let r : Is (up (sg (side b c q)) & up (sg (side c a q))) =
+    fire (fire (fire (every4 (λ u v s t. bal (u ⊙ s) (v ⊙ t) nil nil ⇒ (up u & dn v or dn u & up v) ⇒ (lo s & lo t ⇒ fail) ⇒ up s & up t) tt
+    (sg (ray ρ q a)) (sg (ray ρ q b)) (sg (side b c q)) (sg (side c a q))) (ray-on ρ q a b c z)) h) (not-low2 a b c q d z) in
+    (record { is = left r }, record { is = right r })
+
 -- and a ray from it that tells a from q has a and b on different sides
 pub left-ray : (ρ q a b c : Place) → Zero (side a b q) → Pos (side b c q) → Pos (side c a q) → Off (ray ρ q a) → Is (up (sg (ray ρ q a)) & dn (sg (ray ρ q b)) or dn (sg (ray ρ q a)) & up (sg (ray ρ q b)))
 unfolding test2 _⊙_ flip
 left-ray ρ q a b c z h k o =
     let s : Is (bal (sg (ray ρ q a) ⊙ above) (sg (ray ρ q b) ⊙ above) nil nil) = rw (pos-sg h, pos-sg k) at (ray-on ρ q a b c z) in
     fire (fire (every2 (λ u v. bal (u ⊙ above) (v ⊙ above) nil nil ⇒ ne u ⇒ up u & dn v or dn u & up v) tt (sg (ray ρ q a)) (sg (ray ρ q b))) s) (o .is)
+
+-- ---- a line p r that has no corner strictly left
+-- inside a triangle is strictly right of it
+pub inside-right : (p r a b c q : Place) → Apart r p → Pos (side a b c) → Pos (side a b q) → Pos (side b c q) → Pos (side c a q) → Low (side p r a) → Low (side p r b) → Low (side p r c) → Neg (side p r q)
+unfolding test4 _⊙_ flip
+inside-right p r a b c q n d h k l x y z =
+    let s : Is (bal (flip (sg (side a b c *ℤ side p r q))) (sg (side p r a)) (sg (side p r b)) (sg (side p r c))) =
+    rw (pos-sg h, pos-sg k, pos-sg l) at (lin (side a b c *ℤ side p r q) (side b c q) (side p r a) (side c a q) (side p r b) (side a b q) (side p r c) (affine p r a b c q)) in
+    let t : Is (bal (flip (sg (side p r q))) (sg (side p r a)) (sg (side p r b)) (sg (side p r c))) =
+    rw (sg-mul (side a b c) (side p r q), pos-sg d) at s in
+    pick (either (fire (fire (fire (fire (every4 (λ u v w g. bal (flip g) u v w ⇒ lo u ⇒ lo v ⇒ lo w ⇒ dn g or ze u & ze v & ze w) tt
+    (sg (side p r a)) (sg (side p r b)) (sg (side p r c)) (sg (side p r q))) t) (x .is)) (y .is)) (z .is)))
+  where
+    pick : Is (dn (sg (side p r q))) ⊎ Is (ze (sg (side p r a)) & ze (sg (side p r b)) & ze (sg (side p r c))) → Neg (side p r q)
+    pick (inl g) = record { is = g }
+    pick (inr g) =
+        absurd (not-flat p r a b c (sq-pos r p n) d (record { is = left g }) (record { is = left (right g) }) (record { is = right (right g) }))
+
+-- a place on the open side a b, by the ends alone
+edge-parts : (p r a b c q : Place) → Pos (side a b c) → Zero (side a b q) → Neg (dots a b q) → Is (bal (flip (sg (side p r q))) (sg (side p r a)) (sg (side p r b)) nil)
+unfolding _⊙_
+edge-parts p r a b c q d o m =
+    let hk = open-left a b c q d o m in
+    let s : Is (bal (flip (sg (side a b c *ℤ side p r q))) (sg (side p r a)) (sg (side p r b)) nil) =
+    rw (zero-sg o, pos-sg (hk .0), pos-sg (hk .1)) at (lin (side a b c *ℤ side p r q) (side b c q) (side p r a) (side c a q) (side p r b) (side a b q) (side p r c) (affine p r a b c q)) in
+    rw (sg-mul (side a b c) (side p r q), pos-sg d) at s
+
+-- is not strictly left of it
+pub edge-low : (p r a b c q : Place) → Pos (side a b c) → Zero (side a b q) → Neg (dots a b q) → Low (side p r a) → Low (side p r b) → Low (side p r q)
+unfolding test3 flip
+edge-low p r a b c q d o m x y =
+    record {
+      is = fire (fire (fire (every3 (λ u v g. bal (flip g) u v nil ⇒ lo u ⇒ lo v ⇒ lo g) tt
+          (sg (side p r a)) (sg (side p r b)) (sg (side p r q))) (edge-parts p r a b c q d o m)) (x .is)) (y .is);
+    }
+
+-- and strictly right of it where the side is between two triangles
+turned : (p r a b c : Place) → Pos (dots r r p) → Pos (side a b c) → Zero (side p r a) → Zero (side p r b) → Low (side p r c) → Pos (dots r a p -ℤ dots r b p)
+unfolding test4 _⊙_ flip
+turned p r a b c h d x y z =
+    let s : Is (bal above nil nil (sg (side p r c) ⊙ sg (dots r a p -ℤ dots r b p))) =
+    rw (pos-sg h, pos-sg d, zero-sg x, zero-sg y) at (bal-mul (dots r r p) (side a b c) (side p r a) (dots r b p -ℤ dots r c p) (side p r b) (dots r c p -ℤ dots r a p) (side p r c) (dots r a p -ℤ dots r b p) (flat p r a b c)) in
+    record { is = fire (fire (every2 (λ u v. bal above nil nil (u ⊙ v) ⇒ lo u ⇒ up v) (unfold test2 in tt) (sg (side p r c)) (sg (dots r a p -ℤ dots r b p))) s) (z .is) }
+
+pub edge-right : (p r a b c e q : Place) → Apart r p → Pos (side a b c) → Pos (side b a e) → Zero (side a b q) → Neg (dots a b q) → Low (side p r a) → Low (side p r b) → Low (side p r c) → Low (side p r e) → Neg (side p r q)
+unfolding test3 _⊙_ flip
+edge-right p r a b c e q n d d' o m x y z w =
+    pick (either (fire (fire (fire (every3 (λ u v g. bal (flip g) u v nil ⇒ lo u ⇒ lo v ⇒ dn g or ze u & ze v) tt
+    (sg (side p r a)) (sg (side p r b)) (sg (side p r q))) (edge-parts p r a b c q d o m)) (x .is)) (y .is)))
+  where
+    pick : Is (dn (sg (side p r q))) ⊎ Is (ze (sg (side p r a)) & ze (sg (side p r b))) → Neg (side p r q)
+    pick (inl g) = record { is = g }
+    pick (inr g) =
+        let h = sq-pos r p n in
+        let one = turned p r a b c h d (record { is = left g }) (record { is = right g }) z in
+        let two = turned p r b a e h d' (record { is = right g }) (record { is = left g }) w in
+        absurd (pos-neg two (neg-pos (sub-flip (dots r a p) (dots r b p)) one))

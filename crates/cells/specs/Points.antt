@@ -7,7 +7,7 @@ use lib.IntN.{ℤ, pos, negℤ, _+ℤ_, _-ℤ_, _*ℤ_, +ℤ-idl}
 use Rattle.whole.specs.Poly.{Expr, var, con, _⊕_, _⊖_, _⊗_, env, agree, solve! }
 use Rattle.geometry.specs.declared.Place.{Place}
 use Rattle.geometry.specs.Plane.{vectorOf, crossOf, dotOf, side}
-use Rattle.geometry.specs.Laws.{side-back}
+use Rattle.geometry.specs.Laws.{PlaceE, vectorE, dotE, sideE, circleE, side-back}
 
 -- the dot product of the vectors from q to a and to b
 abbrev pub dots : Place → Place → Place → ℤ
@@ -26,11 +26,14 @@ X i = var (i * 2)
 abbrev pub Y : ℕ → Expr
 Y i = var (i * 2 + 1)
 
+abbrev P : ℕ → PlaceE
+P i = record { x = X i; y = Y i }
+
 abbrev pub oE : ℕ → ℕ → ℕ → Expr
-oE a b q = (X b ⊖ X a) ⊗ (Y q ⊖ Y a) ⊖ (Y b ⊖ Y a) ⊗ (X q ⊖ X a)
+oE a b q = sideE (P a) (P b) (P q)
 
 abbrev pub dE : ℕ → ℕ → ℕ → Expr
-dE a b q = (X a ⊖ X q) ⊗ (X b ⊖ X q) ⊕ (Y a ⊖ Y q) ⊗ (Y b ⊖ Y q)
+dE a b q = dotE (vectorE (P q) (P a)) (vectorE (P q) (P b))
 
 abbrev pub rE : ℕ → ℕ → ℕ → Expr
 rE ρ q v = X ρ ⊗ (Y v ⊖ Y q) ⊖ Y ρ ⊗ (X v ⊖ X q)
@@ -38,18 +41,8 @@ rE ρ q v = X ρ ⊗ (Y v ⊖ Y q) ⊖ Y ρ ⊗ (X v ⊖ X q)
 abbrev pub aE : ℕ → ℕ → ℕ → Expr
 aE ρ q v = X ρ ⊗ (X v ⊖ X q) ⊕ Y ρ ⊗ (Y v ⊖ Y q)
 
--- squared length, cross product, and the circle's determinant along its last column
-abbrev lE : Expr → Expr → Expr
-lE x y = x ⊗ x ⊕ y ⊗ y
-
-abbrev mE : Expr → Expr → Expr → Expr → Expr
-mE a b c d = a ⊗ d ⊖ b ⊗ c
-
-abbrev tE : Expr → Expr → Expr → Expr → Expr → Expr → Expr
-tE ux uy vx vy wx wy = lE ux uy ⊗ mE vx vy wx wy ⊖ lE vx vy ⊗ mE ux uy wx wy ⊕ lE wx wy ⊗ mE ux uy vx vy
-
 abbrev pub jE : ℕ → ℕ → ℕ → ℕ → Expr
-jE a b c q = tE (X a ⊖ X q) (Y a ⊖ Y q) (X b ⊖ X q) (Y b ⊖ Y q) (X c ⊖ X q) (Y c ⊖ Y q)
+jE a b c q = circleE (P a) (P b) (P c) (P q)
 
 -- ---- the identities
 -- a triangle is the sum of its parts as q sees them
@@ -92,6 +85,14 @@ ray-parts ρ q a b c =
     (rE 0 1 2 ⊗ oE 3 4 1 ⊕ rE 0 1 3 ⊗ oE 4 2 1 ⊕ rE 0 1 4 ⊗ oE 2 3 1)
     (con (pos 0)) tt
 
+-- the corners of a triangle against a line p r, weighed as q sees them
+pub affine : (p r a b c q : Place) → side a b c *ℤ side p r q ≡ side b c q *ℤ side p r a +ℤ side c a q *ℤ side p r b +ℤ side a b q *ℤ side p r c
+unfolding side crossOf dotOf agree
+affine p r a b c q =
+    solve! (env (p .x ∷ p .y ∷ r .x ∷ r .y ∷ a .x ∷ a .y ∷ b .x ∷ b .y ∷ c .x ∷ c .y ∷ q .x ∷ q .y ∷ []))
+    (oE 2 3 4 ⊗ oE 0 1 5)
+    (oE 3 4 5 ⊗ oE 0 1 2 ⊕ oE 4 2 5 ⊗ oE 0 1 3 ⊕ oE 2 3 5 ⊗ oE 0 1 4) tt
+
 -- a ray from q against two steps a b, c d
 pub four : (ρ q a b c d : Place) → ray ρ q c *ℤ side a b d +ℤ ray ρ q a *ℤ side c d b +ℤ ray ρ q d *ℤ side b a c +ℤ ray ρ q b *ℤ side d c a ≡ pos 0
 unfolding side crossOf ray agree
@@ -100,13 +101,28 @@ four ρ q a b c d =
     (rE 0 1 4 ⊗ oE 2 3 5 ⊕ rE 0 1 2 ⊗ oE 4 5 3 ⊕ rE 0 1 5 ⊗ oE 3 2 4 ⊕ rE 0 1 3 ⊗ oE 5 4 2)
     (con (pos 0)) tt
 
--- a ray from q against two steps a v, v b
+-- a ray from q against two steps a v, v b: by the sides, and by their length
+pub descent : (ρ q a v b : Place) → (ray ρ q v -ℤ ray ρ q a) *ℤ side v b q +ℤ (ray ρ q b -ℤ ray ρ q v) *ℤ side v a q +ℤ ray ρ q v *ℤ side v a b ≡ pos 0
+unfolding side crossOf ray agree
+descent ρ q a v b =
+    solve! (env (ρ .x ∷ ρ .y ∷ q .x ∷ q .y ∷ a .x ∷ a .y ∷ v .x ∷ v .y ∷ b .x ∷ b .y ∷ []))
+    ((rE 0 1 3 ⊖ rE 0 1 2) ⊗ oE 3 4 1 ⊕ (rE 0 1 4 ⊖ rE 0 1 3) ⊗ oE 3 2 1 ⊕ rE 0 1 3 ⊗ oE 3 2 4)
+    (con (pos 0)) tt
+
 pub descent-on : (ρ q a v b : Place) → dots a a v *ℤ (ray ρ q b -ℤ ray ρ q v) +ℤ (ray ρ q v -ℤ ray ρ q a) *ℤ dots a b v +ℤ side v a b *ℤ along ρ a v ≡ pos 0
 unfolding side crossOf dotOf ray along agree
 descent-on ρ q a v b =
     solve! (env (ρ .x ∷ ρ .y ∷ q .x ∷ q .y ∷ a .x ∷ a .y ∷ v .x ∷ v .y ∷ b .x ∷ b .y ∷ []))
     (dE 2 2 3 ⊗ (rE 0 1 4 ⊖ rE 0 1 3) ⊕ (rE 0 1 3 ⊖ rE 0 1 2) ⊗ dE 2 4 3 ⊕ oE 3 2 4 ⊗ aE 0 2 3)
     (con (pos 0)) tt
+
+-- a ray from another place
+pub ray-base : (ρ q z v : Place) → ray ρ z v ≡ ray ρ q v -ℤ ray ρ q z
+unfolding ray agree
+ray-base ρ q z v =
+    solve! (env (ρ .x ∷ ρ .y ∷ q .x ∷ q .y ∷ z .x ∷ z .y ∷ v .x ∷ v .y ∷ []))
+    (rE 0 2 3)
+    (rE 0 1 3 ⊖ rE 0 1 2) tt
 
 pub dot-back : (a b q : Place) → dots a b q ≡ dots b a q
 unfolding side crossOf dotOf agree

@@ -3,13 +3,14 @@ use mathlib.Core.Path.{_≡_, sym, subst, ap, _∙_}
 use mathlib.Core.Logic.{_⊎_, inl, inr}
 use mathlib.Core.List.{[], _∷_}
 use Prim.Native.Nat.{ℕ, suc, _*_}
+use native.Mathlib.Omega.{arith}
 use lib.IntN.{ℤ, pos, negℤ, _+ℤ_, _-ℤ_, _*ℤ_, +ℤ-idl}
 use Rattle.whole.specs.Poly.{Expr, var, con, _⊕_, _⊖_, _⊗_, env, agree, solve! }
 use Rattle.whole.specs.Bound.{Within}
 use Rattle.geometry.specs.declared.Place.{Place}
 use Rattle.geometry.specs.Plane.{vectorOf, crossOf, dotOf, side}
 use Rattle.signs.specs.Signs.{S, below, sg, flip, _⊙_, Fm, up, dn, ze, hi, fail, _⇒_, _&_, ev, Is, Pos, Neg, Zero, High, Off, fire, left, right, both, test3, test6, every3, every6, zero-eq, eq-zero, bal, bal-mul3, add3, sg-mul, poss, sum-ok, failed}
-use Rattle.signs.specs.Order.{pos-sg, zero-sg, neg-nil, neg-pos, off-or-zero}
+use Rattle.signs.specs.Order.{pos-sg, zero-sg, neg-nil, neg-pos, off-or-zero, nat-pos, mul-pos}
 use Rattle.cells.specs.Points.{dots, ray, along, X, Y, oE, dE, rE, parts}
 use Rattle.cells.specs.Corner.{Apart, sq-pos, not-flat}
 use Rattle.cells.specs.Rays.{kap, om, far}
@@ -87,15 +88,10 @@ pub tilt-right : (n : ℕ) (q x y : Place) → Pos (side q x y) → Neg (ray (ti
 tilt-right n q x y d = neg-pos (tilt-first (pos (suc n)) q x y) d
 
 suc-pos : (n : ℕ) → Pos (pos (suc n))
-unfolding sg ev
-suc-pos n = record { is = record { is = tt } }
-
-mul-pos : (u v : ℤ) → Pos u → Pos v → Pos (u *ℤ v)
-unfolding ev _⊙_
-mul-pos u v h k = record { is = rw (sg-mul u v, pos-sg h, pos-sg k) (record { is = tt }) }
+suc-pos n = nat-pos (suc n) (omega arith)
 
 pub tilt-left : (n : ℕ) (q x y : Place) → Pos (side q x y) → Pos (ray (tilt (pos (suc n)) q x y) q y)
-tilt-left n q x y d = subst Pos (sym (tilt-second (pos (suc n)) q x y)) (mul-pos (pos (suc n)) (side q x y) (suc-pos n) d)
+tilt-left n q x y d = subst Pos (sym (tilt-second (pos (suc n)) q x y)) (mul-pos (suc-pos n) d)
 
 -- two places that are not alike
 other : (k u w : ℤ) → k *ℤ u +ℤ w ≡ pos 0 → w ≡ k *ℤ negℤ u

@@ -12,7 +12,8 @@ use lib.Ieee.{Float, nan, inf, fin, up, down}
 use lib.Ieee.Fits.{down-pos}
 use borrow.Author.Tests.{leb-false, ltb-false, lt-leb, le-ltb}
 use Rattle.whole.specs.Poly.{Expr, var, con, _⊕_, _⊖_, _⊗_, env, agree, solve! }
-use Rattle.whole.specs.Sign.{Above, AtLeast, above-atleast, above-cancel}
+use Rattle.signs.specs.Signs.{Pos, High}
+use Rattle.signs.specs.Order.{nat-pos, pos-nat, add-pos, cancel-pos}
 use Rattle.charge.specs.Order.{le-atleast, atleast-le, lt-above, above-lt, above-sub}
 use Rattle.charge.specs.Charging.{ChargeMax, Nearest, signed, IsCharge, offScale, rounded, chargeOf}
 use Rattle.charge.specs.Charging.Cost.{whole, turnedDown}
@@ -44,21 +45,21 @@ K = var 3
 
 -- ---- no two whole numbers are nearest
 -- one is at most the other
-one-above : (x : ℤ) (d : ℕ) (n k : ℤ) → 0 < d → Nearest x d n → Nearest x d k → Above (k -ℤ n +ℤ pos 1)
+one-above : (x : ℤ) (d : ℕ) (n k : ℤ) → 0 < d → Nearest x d n → Nearest x d k → Pos (k -ℤ n +ℤ pos 1)
 unfolding agree
 one-above x d n k p a b =
-    let s : Above (short x d k +ℤ past x d n) = above-atleast (lt-above _ _ (b .below)) (le-atleast _ _ (a .from)) in
+    let s : Pos (short x d k +ℤ past x d n) = add-pos (lt-above _ _ (b .below)) (le-atleast _ _ (a .from)) in
     let e : short x d k +ℤ past x d n ≡ pos 2 *ℤ pos d *ℤ (k -ℤ n +ℤ pos 1) =
     solve! (env (x ∷ pos d ∷ n ∷ k ∷ [])) (shortE X D K ⊕ pastE X D N) (con (pos 2) ⊗ D ⊗ (K ⊖ N ⊕ con (pos 1))) tt
     in
-    above-cancel (pos 2 *ℤ pos d) (k -ℤ n +ℤ pos 1) (record { is = lt→ltb 0 (2 * d) (omega arith) }) (subst Above e s)
+    cancel-pos (pos 2 *ℤ pos d) (k -ℤ n +ℤ pos 1) (nat-pos (2 * d) (omega arith)) (subst Pos e s)
 
 -- what is neither 1 above nor 1 below 0
-near-zero : (z : ℤ) → Above (z +ℤ pos 1) → Above (pos 1 -ℤ z) → z ≡ pos 0
+near-zero : (z : ℤ) → Pos (z +ℤ pos 1) → Pos (pos 1 -ℤ z) → z ≡ pos 0
 near-zero (pos zero) h k = refl
-near-zero (pos (suc zero)) h k = absurd (k .is)
+near-zero (pos (suc zero)) h k = absurd (not-suc-le-zero (pos-nat 0 k))
 near-zero (pos (suc (suc n))) h k = absurd (not-suc-le-zero (le-of-suc-le-suc (above-sub 1 (suc n) k)))
-near-zero (negsuc zero) h k = absurd (h .is)
+near-zero (negsuc zero) h k = absurd (not-suc-le-zero (pos-nat 0 h))
 near-zero (negsuc (suc n)) h k = absurd (not-suc-le-zero (le-of-suc-le-suc (above-sub 1 (suc n) h)))
 
 one-nearest : (x : ℤ) (d : ℕ) (n k : ℤ) → 0 < d → Nearest x d n → Nearest x d k → n ≡ k
@@ -67,7 +68,7 @@ one-nearest x d n k p a b =
     let e : n -ℤ k +ℤ pos 1 ≡ pos 1 -ℤ (k -ℤ n) =
     solve! (env (x ∷ pos d ∷ n ∷ k ∷ [])) (N ⊖ K ⊕ con (pos 1)) (con (pos 1) ⊖ (K ⊖ N)) tt
     in
-    let z : k -ℤ n ≡ pos 0 = near-zero (k -ℤ n) (one-above x d n k p a b) (subst Above e (one-above x d k n p b a)) in
+    let z : k -ℤ n ≡ pos 0 = near-zero (k -ℤ n) (one-above x d n k p a b) (subst Pos e (one-above x d k n p b a)) in
     sym (+ℤ-idl n) ∙ ap (λ (y : ℤ). y +ℤ n) (sym z) ∙ -ℤ-+ℤ-cancel k n
 
 -- the charge of a value is one number
@@ -95,13 +96,13 @@ module _ (a d k : ℕ) where
 
   nearest-up : 2 * k * d ≤ 2 * a + d → 2 * a < (2 * k + 1) * d → Nearest (pos a) d (pos k)
   nearest-up h l = record {
-    from = atleast-le _ _ (subst AtLeast (sym up-past) (le-atleast (pos (2 * k * d)) (pos (2 * a + d)) (record { le = le→leb _ _ h })));
+    from = atleast-le _ _ (subst High (sym up-past) (le-atleast (pos (2 * k * d)) (pos (2 * a + d)) (record { le = le→leb _ _ h })));
     below = record { lt = lt→ltb (2 * a) ((2 * k + 1) * d) l };
   }
 
   up-nearest : Nearest (pos a) d (pos k) → (2 * k * d ≤ 2 * a + d) × (2 * a < (2 * k + 1) * d)
   up-nearest h = (
-    leb→le (2 * k * d) (2 * a + d) (atleast-le (pos (2 * k * d)) (pos (2 * a + d)) (subst AtLeast up-past (le-atleast _ _ (h .from))) .le),
+    leb→le (2 * k * d) (2 * a + d) (atleast-le (pos (2 * k * d)) (pos (2 * a + d)) (subst High up-past (le-atleast _ _ (h .from))) .le),
     ltb→lt (2 * a) ((2 * k + 1) * d) (h .below .lt),
   )
 
@@ -109,12 +110,12 @@ module _ (a d k : ℕ) where
   nearest-down p h =
       let x : (2 * k + 1) * d ≡ 2 * k * d + 1 * d = add-mul (2 * k) 1 d in
       record {
-        from = atleast-le _ _ (subst AtLeast (sym down-past) (le-atleast (pos (2 * k * d + 2 * a)) (pos d) (record { le = le→leb _ _ h })));
-        below = above-lt _ _ (subst Above (sym down-short) (lt-above (pos 0) (pos ((2 * k + 1) * d + 2 * a)) (record { lt = lt→ltb 0 ((2 * k + 1) * d + 2 * a) (omega arith) })));
+        from = atleast-le _ _ (subst High (sym down-past) (le-atleast (pos (2 * k * d + 2 * a)) (pos d) (record { le = le→leb _ _ h })));
+        below = above-lt _ _ (subst Pos (sym down-short) (lt-above (pos 0) (pos ((2 * k + 1) * d + 2 * a)) (record { lt = lt→ltb 0 ((2 * k + 1) * d + 2 * a) (omega arith) })));
       }
 
   down-nearest : Nearest (pos 0 -ℤ pos a) d (pos k) → 2 * k * d + 2 * a ≤ d
-  down-nearest h = leb→le (2 * k * d + 2 * a) d (atleast-le (pos (2 * k * d + 2 * a)) (pos d) (subst AtLeast down-past (le-atleast _ _ (h .from))) .le)
+  down-nearest h = leb→le (2 * k * d + 2 * a) d (atleast-le (pos (2 * k * d + 2 * a)) (pos d) (subst High down-past (le-atleast _ _ (h .from))) .le)
 
 -- of x = -a and n = -k
 module _ (a d k : ℕ) where
@@ -132,8 +133,8 @@ module _ (a d k : ℕ) where
 
   nearest-under : 2 * a ≤ (2 * k + 1) * d → 2 * k * d < 2 * a + d → Nearest (pos 0 -ℤ pos a) d (pos 0 -ℤ pos k)
   nearest-under h l = record {
-    from = atleast-le _ _ (subst AtLeast (sym under-past) (le-atleast (pos (2 * a)) (pos ((2 * k + 1) * d)) (record { le = le→leb (2 * a) ((2 * k + 1) * d) h })));
-    below = above-lt _ _ (subst Above (sym under-short) (lt-above (pos (2 * k * d)) (pos (2 * a + d)) (record { lt = lt→ltb (2 * k * d) (2 * a + d) l })));
+    from = atleast-le _ _ (subst High (sym under-past) (le-atleast (pos (2 * a)) (pos ((2 * k + 1) * d)) (record { le = le→leb (2 * a) ((2 * k + 1) * d) h })));
+    below = above-lt _ _ (subst Pos (sym under-short) (lt-above (pos (2 * k * d)) (pos (2 * a + d)) (record { lt = lt→ltb (2 * k * d) (2 * a + d) l })));
   }
 
 -- ---- the whole part of a / d + 1/2 is nearest

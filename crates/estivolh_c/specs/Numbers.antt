@@ -19,14 +19,14 @@ use Rattle.reading.specs.declared.Head.the-variants as H
 use Rattle.reading.specs.Reading.{headOf, loadOf, chartIn}
 use Rattle.reading.specs.Laws.{head-refusal, load-refusal, chart-head, chart-body}
 use Rattle.locate.specs.declared.Location.{Location}
-use Rattle.locate.specs.declared.Location.the-variants.{OnVertex, OnEdge, OnFace, OutsideOfConvexHull, NoPlace}
+use Rattle.locate.specs.declared.Location.the-variants.{OnVertex, OnEdge, OnFace, OutsideOfConvexHull}
 use Rattle.locate.specs.Location.{locationOf}
 use Rattle.neighbors.specs.Neighbors.{neighborsOf}
 use Rattle.weights.specs.Barycentric.{Weights, weighTwo, weighThree}
 use Rattle.natural.specs.Natural.{Shares, shares, broken, sharesOf, naturalWeightsOf}
 use Rattle.charge.specs.Charging.{Cost, offScale, rounded, chargeOf}
 use Rattle.values.specs.Located.{placeRefusal, barycentricAt}
-use Rattle.values.specs.Value.{Answer, methodOf, barycentricValue, fromShares, naturalValue, valueAt, valueFrom, locatedValue, valueOn}
+use Rattle.values.specs.Value.{Answer, methodOf, barycentricValue, fromShares, naturalValue, valueFrom, locatedValue, valueOn}
 use Rattle.query.specs.Location as L
 use Rattle.query.specs.Weights as W
 use Rattle.query.specs.Gradient as G
@@ -86,18 +86,11 @@ chart-told s = go (headOf s) refl
     go (H.Counts v e f) q = subst ToldChart (sym (chart-body s v e f q)) (body-told v e f s)
 
 -- ---- locate
-placed-told : (l : Location) → ToldPlace (L.placed l)
-placed-told (OnVertex v) = tt
-placed-told (OnEdge h) = tt
-placed-told (OnFace f) = tt
-placed-told (OutsideOfConvexHull h) = tt
-placed-told NoPlace = λ e. omega arith
-
 locate-in : (l : Loaded) (q : Place) → ToldChart l → ToldPlace (L.locateIn l q)
 unfolding L.locateOn
 locate-in (loaded vs es fs) q h =
     let c = chartOf vs es fs in
-    either ToldPlace (offGrid q) (L.Located.turnedDown 13) (L.placed (locationOf c q)) (λ e. omega arith) (placed-told (locationOf c q))
+    either ToldPlace (offGrid q) (L.Located.turnedDown 13) (L.Located.at (locationOf c q)) (λ e. omega arith) tt
 locate-in (refused n) q h = h
 
 pub locate-told : (s : List ℕ) (x y : ℤ) → ToldPlace (L.locateOf s x y)
@@ -110,7 +103,6 @@ weights-at c q (OnVertex v) = tt
 weights-at c q (OnEdge h) = tt
 weights-at c q (OnFace f) = tt
 weights-at c q (OutsideOfConvexHull h) = λ e. omega arith
-weights-at c q NoPlace = λ e. omega arith
 
 weights-in : (l : Loaded) (q : Place) → ToldChart l → ToldWeights (W.barycentricIn l q)
 unfolding W.barycentricOn
@@ -192,7 +184,6 @@ value-barycentric c q (OnVertex v) = tt
 value-barycentric c q (OnEdge h) = tt
 value-barycentric c q (OnFace f) = tt
 value-barycentric c q (OutsideOfConvexHull h) = λ e. omega arith
-value-barycentric c q NoPlace = λ e. omega arith
 
 value-shares : (m : ℕ) (c : Chart) (q : Place) (os : List ℕ) (t : Shares) → ToldValue (fromShares m c q os t)
 value-shares m c q os broken = λ e. omega arith

@@ -6,9 +6,10 @@ use Prim.Native.Nat.{ℕ}
 use lib.IntN.{ℤ, pos, _+ℤ_, _-ℤ_, _*ℤ_, +ℤ-idr, zero-*ℤ}
 use lib.Signed.{ltZ}
 use Rattle.whole.specs.Bools.{and-true}
-use Rattle.whole.specs.Test.{eqZ, eqZ-true, eq-eqZ}
+use Rattle.whole.specs.Test.{eqZ, eqZ-true, eq-eqZ, below-zero}
 use Rattle.whole.specs.Poly.{Expr, var, con, _⊕_, _⊖_, _⊗_, env, agree, solve! }
-use Rattle.whole.specs.Sign.{Above, AtLeast, above-add, above-mul, above-atleast, atleast-add, above-cancel, both-above, square, below-zero, test-above, above-test}
+use Rattle.signs.specs.Signs.{Pos, High}
+use Rattle.signs.specs.Order.{pos-high, test-pos, pos-test, add-pos, add-high, mul-pos, cancel-pos, both-pos, square2-high}
 use Rattle.geometry.specs.declared.Place.{Place}
 use Rattle.geometry.specs.Plane.{vectorOf, crossOf, dotOf, norm2Of, side, lifted, circle, onOpenSegment}
 
@@ -24,25 +25,25 @@ pub record PlaceE : Type 0 where
 abbrev placeE : ℕ → ℕ → PlaceE
 placeE i j = record { x = var i; y = var j }
 
-abbrev vectorE : PlaceE → PlaceE → PlaceE
+abbrev pub vectorE : PlaceE → PlaceE → PlaceE
 vectorE p q = record { x = q .x ⊖ p .x; y = q .y ⊖ p .y }
 
 abbrev crossE : PlaceE → PlaceE → Expr
 crossE u v = u .x ⊗ v .y ⊖ u .y ⊗ v .x
 
-abbrev dotE : PlaceE → PlaceE → Expr
+abbrev pub dotE : PlaceE → PlaceE → Expr
 dotE u v = u .x ⊗ v .x ⊕ u .y ⊗ v .y
 
 abbrev norm2E : PlaceE → Expr
 norm2E u = u .x ⊗ u .x ⊕ u .y ⊗ u .y
 
-abbrev sideE : PlaceE → PlaceE → PlaceE → Expr
+abbrev pub sideE : PlaceE → PlaceE → PlaceE → Expr
 sideE a b q = crossE (vectorE a b) (vectorE a q)
 
 abbrev liftedE : PlaceE → PlaceE → PlaceE → Expr
 liftedE u v w = norm2E u ⊗ crossE v w ⊖ norm2E v ⊗ crossE u w ⊕ norm2E w ⊗ crossE u v
 
-abbrev circleE : PlaceE → PlaceE → PlaceE → PlaceE → Expr
+abbrev pub circleE : PlaceE → PlaceE → PlaceE → PlaceE → Expr
 circleE a b c q = liftedE (vectorE q a) (vectorE q b) (vectorE q c)
 
 -- the places that the variables 0 to 7 stand for
@@ -105,15 +106,15 @@ circle-power a b c q =
     (sideE A B Q ⊗ dotE (vectorE C A) (vectorE C B) ⊖ sideE A B C ⊗ dotE (vectorE Q A) (vectorE Q B)) tt
 
 -- ---- the open segment
-norm2-low : (u : Place) → AtLeast (norm2Of u)
+norm2-high : (u : Place) → High (norm2Of u)
 unfolding norm2Of
-norm2-low u = atleast-add (square (u .x)) (square (u .y))
+norm2-high u = square2-high (u .x) (u .y)
 
 -- q is on the line and strictly between the ends: its part along a to b is above 0 and below the whole
 pub record Between (a b q : Place) : Type 0 where
   pub on-line : side a b q ≡ pos 0
-  pub past-a : Above (dotOf (vectorOf a q) (vectorOf a b))
-  pub before-b : Above (norm2Of (vectorOf a b) -ℤ dotOf (vectorOf a q) (vectorOf a b))
+  pub past-a : Pos (dotOf (vectorOf a q) (vectorOf a b))
+  pub before-b : Pos (norm2Of (vectorOf a b) -ℤ dotOf (vectorOf a q) (vectorOf a b))
 
 module _ (a b q : Place) where
   -- the ends seen from q, q's part along a to b, and what is left of it
@@ -157,17 +158,17 @@ module _ (a b q : Place) where
   open-between e =
       let t = and-true (eqZ (side a b q) (pos 0)) (ltZ ends (pos 0)) e in
       let o : side a b q ≡ pos 0 = eqZ-true (side a b q) (pos 0) (t .0) in
-      let n : Above (pos 0 -ℤ ends) = test-above (below-zero ends ∙ t .1) in
-      let w : Above (norm2Of (vectorOf a b)) = subst Above cosines (above-add n (above-atleast n (atleast-add (norm2-low (vectorOf q a)) (norm2-low (vectorOf q b))))) in
-      let r = both-above part rest (subst Above (sym (on-product o)) (above-mul w n)) (subst Above (sym whole) w) in
+      let n : Pos (pos 0 -ℤ ends) = test-pos (below-zero ends ∙ t .1) in
+      let w : Pos (norm2Of (vectorOf a b)) = subst Pos cosines (add-pos n (pos-high (add-pos n (add-high (norm2-high (vectorOf q a)) (norm2-high (vectorOf q b)))))) in
+      let r = both-pos part rest (subst Pos (sym (on-product o)) (mul-pos w n)) (subst Pos (sym whole) w) in
       record { on-line = o; past-a = r .0; before-b = r .1 }
 
   pub between-open : Between a b q → onOpenSegment a b q ≡ true
   unfolding onOpenSegment
   between-open h =
-      let w : Above (norm2Of (vectorOf a b)) = subst Above whole (above-add (h .past-a) (h .before-b)) in
-      let n : Above (pos 0 -ℤ ends) = above-cancel (norm2Of (vectorOf a b)) (pos 0 -ℤ ends) w (subst Above (on-product (h .on-line)) (above-mul (h .past-a) (h .before-b))) in
-      simp (eq-eqZ (side a b q) (pos 0) (h .on-line), sym (below-zero ends) ∙ above-test n)
+      let w : Pos (norm2Of (vectorOf a b)) = subst Pos whole (add-pos (h .past-a) (pos-high (h .before-b))) in
+      let n : Pos (pos 0 -ℤ ends) = cancel-pos (norm2Of (vectorOf a b)) (pos 0 -ℤ ends) w (subst Pos (on-product (h .on-line)) (mul-pos (h .past-a) (h .before-b))) in
+      simp (eq-eqZ (side a b q) (pos 0) (h .on-line), sym (below-zero ends) ∙ pos-test n)
 
 -- ---- a chord of the circle
 module _ (a b c q : Place) where
@@ -186,13 +187,13 @@ module _ (a b c q : Place) where
       (e ⊗ sideE A B C ⊕ sideE A B Q ⊗ (norm2E (vectorE Q C) ⊖ dotE (vectorE Q A) (vectorE Q C) ⊖ dotE (vectorE Q B) (vectorE Q C) ⊖ e)) tt
 
   -- the open segment from a to b is strictly inside the circle of the left-turning a, b, c
-  pub chord-inside : onOpenSegment a b q ≡ true → Above (side a b c) → Above (circle a b c q)
+  pub chord-inside : onOpenSegment a b q ≡ true → Pos (side a b c) → Pos (circle a b c q)
   unfolding onOpenSegment
   chord-inside e l =
       let t = and-true (eqZ (side a b q) (pos 0)) (ltZ (dotOf (vectorOf q a) (vectorOf q b)) (pos 0)) e in
-      let n : Above away = test-above (below-zero (dotOf (vectorOf q a) (vectorOf q b)) ∙ t .1) in
+      let n : Pos away = test-pos (below-zero (dotOf (vectorOf q a) (vectorOf q b)) ∙ t .1) in
       let o : side a b q *ℤ far ≡ pos 0 = ap (λ (z : ℤ). z *ℤ far) (eqZ-true (side a b q) (pos 0) (t .0)) ∙ zero-*ℤ far in
-      subst Above (sym (chord ∙ ap (λ (z : ℤ). away *ℤ side a b c +ℤ z) o ∙ +ℤ-idr (away *ℤ side a b c))) (above-mul n l)
+      subst Pos (sym (chord ∙ ap (λ (z : ℤ). away *ℤ side a b c +ℤ z) o ∙ +ℤ-idr (away *ℤ side a b c))) (mul-pos n l)
 
 -- the open segment with its ends exchanged
 pub segment-back : (a b q : Place) → onOpenSegment a b q ≡ true → onOpenSegment b a q ≡ true

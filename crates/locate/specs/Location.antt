@@ -1,5 +1,5 @@
 -- 01, "Location": where a load q lies on a chart. First that holds: the vertex at q; the lowest even half-edge with q on its open segment; the lowest
--- inner face with q strictly left of its three half-edges; the lowest outer half-edge with q strictly left; else 15.
+-- inner face with q strictly left of its three half-edges; the lowest outer half-edge with q strictly left.
 use mathlib.Core.Bool.{Bool, cond, _&&_}
 use Prim.Native.Nat.{ℕ, _%_}
 use lib.Dec.{ltb, eqb}
@@ -11,7 +11,7 @@ use Rattle.geometry.specs.Plane.{side, onOpenSegment}
 use Rattle.chart.specs.Chart.{Chart, fromOf, toOf, outer}
 use Rattle.delaunay.specs.Delaunay.{samePlace}
 use Rattle.locate.specs.declared.Location.{Location}
-use Rattle.locate.specs.declared.Location.the-variants.{OnVertex, OnEdge, OnFace, OutsideOfConvexHull, NoPlace}
+use Rattle.locate.specs.declared.Location.the-variants.{OnVertex, OnEdge, OnFace, OutsideOfConvexHull}
 
 -- the vertex at q
 abbrev pub atVertex : Chart → Place → ℕ → Bool
@@ -46,9 +46,9 @@ leftOfOuter c q h = outer c h && leftOf c q h
 abbrev pub lowest : (ℕ → Bool) → ℕ → (ℕ → Location) → Location → Location
 lowest p n answer others = cond (some p n) (answer (first p n)) others
 
--- first that holds; `NoPlace` is 15
+-- first that holds; a load that the first three do not hold is outside, strictly left of an outer half-edge (`outside-left`, crate `home`)
 unfoldable pub locationOf : Chart → Place → Location
 locationOf c q =
     lowest (atVertex c q) (c .vertices) OnVertex
     (lowest (onEvenEdge c q) (c .halfEdges) OnEdge
-    (lowest (inFace c q) (c .faces) OnFace (lowest (leftOfOuter c q) (c .halfEdges) OutsideOfConvexHull NoPlace)))
+    (lowest (inFace c q) (c .faces) OnFace (OutsideOfConvexHull (first (leftOfOuter c q) (c .halfEdges)))))

@@ -10,7 +10,7 @@ use lib.IntN.{pos}
 use lib.ListN.{length, getD, set, length-set}
 use lib.Seq.{getD-set-same, getD-set-other}
 use lib.Signed.{ltZ}
-use Rattle.whole.specs.Sign.{below-zero}
+use Rattle.whole.specs.Test.{below-zero}
 use Rattle.geometry.specs.declared.Place.{Place}
 use Rattle.geometry.specs.Plane.{side}
 use Rattle.geometry.specs.Laws.{side-back}

@@ -13,13 +13,12 @@ ghost use Rattle.lines.specs.Lines.{Drawn};
 ghost use Rattle.locate.specs.Location.{atVertex, onEdge, onEvenEdge, leftOf, leftOfThree, inFace, leftOfOuter, locationOf};
 ghost use Rattle.locate.specs.Sides.{Sides};
 
-// The Rust's `PositionInTriangulation`; `NoPlace` is 01's refusal 15.
+// The Rust's `PositionInTriangulation`.
 pub enum Location {
     OnVertex(usize),
     OnEdge(usize),
     OnFace(usize),
     OutsideOfConvexHull(usize),
-    NoPlace,
 }
 
 // Whether vertex v is at q.
@@ -232,11 +231,7 @@ pub fn locate_by(
     if f < faces.len() {
         return Location::OnFace(f);
     }
-    let h = find_outer(vertices, edges, faces, q, &left);
-    if h < edges.len() / 4 {
-        return Location::OutsideOfConvexHull(h);
-    }
-    Location::NoPlace
+    Location::OutsideOfConvexHull(find_outer(vertices, edges, faces, q, &left))
 }
 
 // The same for one load.

@@ -3,7 +3,7 @@ use mathlib.Core.Path.{_≡_, sym, subst, ap, _∙_}
 use Prim.Native.Nat.{ℕ, _<_}
 use lib.IntN.{ℤ, negℤ}
 use Rattle.signs.specs.Signs.{Pos, Low}
-use Rattle.signs.specs.Order.{above-pos, not-above}
+use Rattle.signs.specs.Order.{not-pos}
 use Rattle.geometry.specs.declared.Place.{Place}
 use Rattle.geometry.specs.Plane.{side}
 use Rattle.geometry.specs.Laws.{place-eq}
@@ -75,8 +75,8 @@ module _ (c : Chart) (snd : Sound c) where
 
   -- ---- left turns at every inner half-edge, and no vertex left of an outer one
   pub left-turn : (h : ℕ) → h < c .halfEdges → (c .face h ≡ 0 → ⊥) → Pos (side (A h) (B h) (C h))
-  left-turn h l i = subst (λ (v : ℕ). Pos (side (A h) (c .place v) (C h))) (sym (snd .next-start h l)) (above-pos (snd .turns-left h (l, i)))
+  left-turn h l i = subst (λ (v : ℕ). Pos (side (A h) (c .place v) (C h))) (sym (snd .next-start h l)) (snd .turns-left h (l, i))
 
   pub hull : (h z : ℕ) → h < c .halfEdges → z < c .vertices → c .face h ≡ 0 → Low (sd h (c .place z))
   hull h z l m e =
-      subst (λ (v : ℕ). Low (side (A h) (c .place v) (c .place z))) (sym (snd .next-start h l)) (not-above (snd .hull h z (l, e) m))
+      subst (λ (v : ℕ). Low (side (A h) (c .place v) (c .place z))) (sym (snd .next-start h l)) (not-pos (snd .hull h z (l, e) m))

@@ -2,6 +2,7 @@ pub mod Chart
 pub mod Rim
 pub mod Line
 pub mod Tally
+pub mod Once
 pub mod Vertex
 pub mod Windows
 pub mod Walk

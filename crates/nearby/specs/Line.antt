@@ -66,11 +66,11 @@ module _ (c : Chart) (snd : Sound c) (q : Place) where
     unfolding fartherF
     farther h v = ev (fartherF h v)
 
-    size : ℕ → ℕ
+    pub size : ℕ → ℕ
     unfolding farther
     size h = count (farther h) (c .vertices)
 
-    falls : (h k : ℕ) → k < c .halfEdges → Neg (al k -ℤ al h) → size k < size h
+    pub falls : (h k : ℕ) → k < c .halfEdges → Neg (al k -ℤ al h) → size k < size h
     unfolding size farther fartherF
     falls h k l n =
         count-less (farther k) (farther h) (c .vertices) (c .origin k) (snd .range .origins k l)

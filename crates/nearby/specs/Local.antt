@@ -1,7 +1,7 @@
 -- Of charts that 6 to 10 let pass, 11 meets exactly those with a pressed edge: across it a third corner is strictly inside a circle. Assumes nothing.
 use mathlib.Core.Path.{_≡_, refl, sym, subst, ap, _∙_}
 use mathlib.Core.Logic.{_⊎_, inl, inr}
-use mathlib.Core.Bool.{Bool, true, false, not, _&&_, false≢true}
+use mathlib.Core.Bool.{Bool, true, false, not, _&&_}
 use Prim.Native.Nat.{ℕ, zero, suc, _*_, _/_, _%_, _<_, _≤_}
 use native.Mathlib.Omega.{arith}
 use native.Mathlib.Decide.{ℕ-discrete}
@@ -11,7 +11,6 @@ use lib.Signed.{ltZ}
 use borrow.Author.Tests.{eq-eqb, ne-eqb, eqb-false, lt-ltb, ltb-true, ltb-false, not-true, le-ltb}
 use Rattle.whole.specs.Bools.{and-true, and-left, is-false}
 use Rattle.whole.specs.First.{first, some, some-at, some-none, none-at, first-found}
-use Rattle.whole.specs.Sign.{Above, test-above, above-test}
 use Rattle.geometry.specs.declared.Place.{Place}
 use Rattle.geometry.specs.Plane.{circle}
 use Rattle.geometry.specs.Laws.{circle-turn}
@@ -20,8 +19,8 @@ use Rattle.delaunay.specs.Delaunay.{inCircle, crowded}
 use Rattle.across.specs.Across.{presses, pressed}
 use Rattle.sound.specs.Tests.{Passed, above-zero}
 use Rattle.sound.specs.Sound.{Sound, sound}
-use Rattle.signs.specs.Signs.{Low}
-use Rattle.signs.specs.Order.{above-pos, not-above}
+use Rattle.signs.specs.Signs.{Pos, Low}
+use Rattle.signs.specs.Order.{test-pos, pos-test, test-low}
 use Rattle.cells.specs.Window.{circle-across}
 use Rattle.nearby.specs.Chart as Ch
 use Rattle.nearby.specs.Windows as W
@@ -42,7 +41,7 @@ module _ (c : Chart) (snd : Sound c) where
   low-at h l i j e =
       let x = and-left (not (outer c h)) _ e (ap not (ne-eqb (c .face h) 0 i)) in
       let y = and-left (not (outer c (partner h))) (ltZ (pos 0) (circle (A h) (toOf c h) (C h) (C (partner h)))) x (ap not (ne-eqb (c .face (partner h)) 0 j)) in
-      subst (λ (v : ℕ). Low (circle (A h) (c .place v) (C h) (C (partner h)))) (sym (snd .next-start h l)) (not-above (λ a. false≢true (sym y ∙ above-test a)))
+      subst (λ (v : ℕ). Low (circle (A h) (c .place v) (C h) (C (partner h)))) (sym (snd .next-start h l)) (test-low y)
 
   calm : ((k : ℕ) → k < c .halfEdges / 2 → pressed c k ≡ false) → Calm c snd
   calm n h l i j = pick (ℕ-discrete (h % 2) 0)
@@ -94,7 +93,7 @@ module _ (c : Chart) (snd : Sound c) where
       let s : some (λ v. inCircle c (c .place v) f) (c .vertices) ≡ false =
       some-none (λ v. inCircle c (c .place v) f) (c .vertices)
       (λ v m. is-false (inCircle c (c .place v) f)
-      (λ e. empty c snd (calm n) v m a al ai (above-pos (subst Above (turn a (c .place v)) (test-above e))))) in
+      (λ e. empty c snd (calm n) v m a al ai (subst Pos (turn a (c .place v)) (test-pos e)))) in
       rw (s, lt-ltb 0 f (omega arith))
     where
       suc-not : (g : ℕ) → suc g ≡ 0 → ⊥
@@ -128,7 +127,7 @@ module _ (c : Chart) (snd : Sound c) where
   one-crowded : (k : ℕ) → k < c .halfEdges / 2 → pressed c k ≡ true → some (crowded c) (c .faces) ≡ true
   one-crowded k l e =
       some-at (crowded c) (c .faces) (c .face h) fl
-      (rw (lt-ltb 0 (c .face h) (above-zero (c .face h) i)) (some-at (λ v. inCircle c (c .place v) (c .face h)) (c .vertices) z zl (above-test held)))
+      (rw (lt-ltb 0 (c .face h) (above-zero (c .face h) i)) (some-at (λ v. inCircle c (c .place v) (c .face h)) (c .vertices) z zl (pos-test held)))
     where
       h : ℕ
       h = k * 2
@@ -160,11 +159,11 @@ module _ (c : Chart) (snd : Sound c) where
       a : ℕ
       a = c .adjacent (c .face h)
 
-      held : Above (circle (C a) (A a) (B a) (c .place z))
+      held : Pos (circle (C a) (A a) (B a) (c .place z))
       held =
-          subst Above
+          subst Pos
           (ap (λ (v : ℕ). circle (A h) (c .place v) (C h) (c .place z)) (sym (snd .next-start h hl)) ∙ circ-adjacent h (c .place z) hl i ∙ sym (turn a (c .place z)))
-          (test-above (y .1))
+          (test-pos (y .1))
 
 -- ---- a chart without an inner face
 module _ (c : Chart) (r : InRange c) (few : c .faces ≤ 1) where

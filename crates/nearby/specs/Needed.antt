@@ -16,16 +16,16 @@ use Rattle.delaunay.specs.Delaunay.{sharesPlace, notLeft, overhung, crowded}
 use Rattle.across.specs.Across.{pressed}
 
 -- the tables of a chart as they stand in its file
-record Tables : Type 0 where
-  vs : List ℤ
-  es : List ℤ
-  fs : List ℤ
+pub record Tables : Type 0 where
+  pub vs : List ℤ
+  pub es : List ℤ
+  pub fs : List ℤ
 
-abbrev chart : Tables → Chart
+abbrev pub chart : Tables → Chart
 chart t = chartOf (t .vs) (unsignedAll (t .es)) (unsignedAll (t .fs))
 
 -- 7, "at most one outer half-edge leaves a vertex": two sheets with the same three corners, one of them with a vertex within
-unfoldable sheets : Tables
+unfoldable pub sheets : Tables
 sheets =
     record {
       vs = pos 0 ∷ pos 0 ∷ pos 0 ∷ pos 0 ∷ pos 12 ∷ pos 0 ∷ pos 0 ∷ pos 1 ∷ pos 0 ∷ pos 12 ∷ pos 0 ∷ pos 3 ∷ pos 3 ∷ pos 3 ∷ pos 0 ∷ pos 9 ∷ [];
@@ -34,7 +34,7 @@ sheets =
     }
 
 -- 8: the same two sheets, each with corners of its own, at the same places
-unfoldable copies : Tables
+unfoldable pub copies : Tables
 copies =
     record {
       vs = pos 0 ∷ pos 0 ∷ pos 0 ∷ pos 0 ∷ pos 12 ∷ pos 0 ∷ pos 0 ∷ pos 1 ∷ pos 0 ∷ pos 12 ∷ pos 0 ∷ pos 3 ∷ pos 0 ∷ pos 0 ∷ pos 0 ∷ pos 6 ∷ pos 12 ∷ pos 0 ∷ pos 0 ∷ pos 7 ∷ pos 0 ∷ pos 12 ∷ pos 0 ∷ pos 13 ∷ pos 3 ∷ pos 3 ∷ pos 0 ∷ pos 9 ∷ [];
@@ -139,16 +139,16 @@ far-rows = record { last-alone = refl; last = refl; first-face = refl; other-fac
 abbrev Seen : Chart → Type 0
 Seen c = some (pressed c) (c .halfEdges / 2) ≡ some (crowded c) (c .faces)
 
-abbrev Seven : Chart → Type 0
+abbrev pub Seven : Chart → Type 0
 Seven c = linksBroken c ≡ false
 
-abbrev Eight : Chart → Type 0
+abbrev pub Eight : Chart → Type 0
 Eight c = some (sharesPlace c) (c .vertices) ≡ false
 
-abbrev Nine : Chart → Type 0
+abbrev pub Nine : Chart → Type 0
 Nine c = some (notLeft c) (c .faces) ≡ false
 
-abbrev Ten : Chart → Type 0
+abbrev pub Ten : Chart → Type 0
 Ten c = some (overhung c) (c .halfEdges) ≡ false
 
 -- a chart with a crowded face and no pressed edge is not seen

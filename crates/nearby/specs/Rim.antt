@@ -9,7 +9,7 @@ use Rattle.signs.specs.Order.{neg-lo, low-high, neg-or-high}
 use Rattle.geometry.specs.declared.Place.{Place}
 use Rattle.geometry.specs.Plane.{side}
 use Rattle.cells.specs.Points.{dots, dot-back}
-use Rattle.cells.specs.Corner.{Apart, not-flat, on-line, sq-pos, open-left, left-open}
+use Rattle.cells.specs.Corner.{Apart, not-flat, on-line, sq-pos, inside-right, edge-low, edge-right, open-left, left-open}
 use Rattle.chart.specs.Chart.{Chart, partner, partner-in}
 use Rattle.sound.specs.Sound.{Sound}
 use Rattle.nearby.specs.Chart as Ch
@@ -77,3 +77,29 @@ module _ (c : Chart) (snd : Sound c) where
   pub twin-dot : (h : ℕ) (q : Place) → h < c .halfEdges → dots (A (partner h)) (B (partner h)) q ≡ dots (A h) (B h) q
   twin-dot h q l =
       ap (λ (p : Place). dots p (B (partner h)) q) (Ch.twin-A c snd h l) ∙ ap (λ (p : Place). dots (B h) p q) (Ch.twin-B c snd h l) ∙ dot-back (B h) (A h) q
+
+  -- ---- strictly inside a face is strictly inside the rim
+  corner : (h z : ℕ) → h < c .halfEdges → z < c .halfEdges → c .face h ≡ 0 → Low (sd h (A z))
+  corner h z l m e = Ch.hull c snd h (c .origin z) l (snd .range .origins z m) e
+
+  pub inside : (h k : ℕ) (q : Place) → h < c .halfEdges → k < c .halfEdges → (c .face h ≡ 0 → ⊥) → c .face k ≡ 0 → Pos (sd h q) → Pos (sd (c .next h) q) → Pos (sd (c .prev h) q) → Neg (sd k q)
+  inside h k q l m i e x y w =
+      inside-right (A k) (B k) (A h) (B h) (C h) q (Ch.apart-ends c snd k m) (Ch.left-turn c snd h l i) x
+      (subst Pos (Ch.side-next c snd h q l i) y) (subst Pos (Ch.side-prev c snd h q l) w)
+      (corner k h m l e) (corner k (c .next h) m (snd .range .nexts h l) e) (corner k (c .prev h) m (snd .range .prevs h l) e)
+
+  -- ---- on an open edge is strictly left of no outer half-edge
+  pub beside : (h k : ℕ) (q : Place) → h < c .halfEdges → k < c .halfEdges → (c .face h ≡ 0 → ⊥) → c .face k ≡ 0 → Zero (sd h q) → Neg (dots (A h) (B h) q) → Low (sd k q)
+  beside h k q l m i e o d =
+      edge-low (A k) (B k) (A h) (B h) (C h) q (Ch.left-turn c snd h l i) o d (corner k h m l e) (corner k (c .next h) m (snd .range .nexts h l) e)
+
+  -- and strictly inside the rim where the edge has two inner sides
+  pub amid : (h k : ℕ) (q : Place) → h < c .halfEdges → k < c .halfEdges → (c .face h ≡ 0 → ⊥) → (c .face (partner h) ≡ 0 → ⊥) → c .face k ≡ 0 → Zero (sd h q) → Neg (dots (A h) (B h) q) → Neg (sd k q)
+  amid h k q l m i j e o d =
+      let t = partner h in
+      let tl : t < c .halfEdges = partner-in (snd .range) h l in
+      let w : Pos (side (A t) (A h) (C t)) = subst (λ (p : Place). Pos (side (A t) p (C t))) (Ch.twin-B c snd h l) (Ch.left-turn c snd t tl j) in
+      let w' : Pos (side (B h) (A h) (C t)) = subst (λ (p : Place). Pos (side p (A h) (C t))) (Ch.twin-A c snd h l) w in
+      edge-right (A k) (B k) (A h) (B h) (C h) (C t) q (Ch.apart-ends c snd k m) (Ch.left-turn c snd h l i) w' o d
+      (corner k h m l e) (corner k (c .next h) m (snd .range .nexts h l) e) (corner k (c .prev h) m (snd .range .prevs h l) e)
+      (corner k (c .prev t) m (snd .range .prevs t tl) e)

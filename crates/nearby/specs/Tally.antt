@@ -1,18 +1,18 @@
 -- The crossings of a ray from q with all half-edges add up to 0: outer and inner ones apart, and the inner ones face by face. Assumes nothing.
-use mathlib.Core.Path.{_≡_, refl, sym, ap, _∙_}
+use mathlib.Core.Path.{_≡_, refl, sym, subst, ap, _∙_}
 use mathlib.Core.Bool.{Bool, true, false, cond}
 use mathlib.Core.List.{[], _∷_}
 use Prim.Native.Nat.{ℕ, _<_}
 use lib.Dec.{eqb}
-use lib.IntN.{ℤ, pos, negℤ, _+ℤ_, +ℤ-idl, +ℤ-idr}
+use lib.IntN.{ℤ, pos, negℤ, _+ℤ_, _-ℤ_, +ℤ-idl, +ℤ-idr, -ℤ-+ℤ-cancel}
 use borrow.Author.Tests.{eq-eqb, ne-eqb}
 use Rattle.whole.specs.Poly.{var, _⊕_, env, agree, solve! }
-use Rattle.signs.specs.Signs.{S, sg, Zero, zero-eq, sg-neg}
+use Rattle.signs.specs.Signs.{S, sg, up, ze, hi, _⇒_, Is, Pos, Zero, High, fire, left, right, both, zero-eq, sg-neg}
 use Rattle.signs.specs.Sum.{sum, sum-ext, sum-add, sum-neg, sum-perm, self-neg}
 use Rattle.geometry.specs.declared.Place.{Place}
 use Rattle.geometry.specs.Plane.{side}
 use Rattle.cells.specs.Points.{ray}
-use Rattle.cells.specs.Rays.{kap, kap-back, om}
+use Rattle.cells.specs.Rays.{kap, kap-back, om, Wound}
 use Rattle.chart.specs.Chart.{Chart, partner, partner-twice, partner-in}
 use Rattle.sound.specs.Sound.{Sound}
 use Rattle.nearby.specs.Chart as Ch
@@ -127,3 +127,39 @@ module _ (c : Chart) (snd : Sound c) (q ρ : Place) where
   pub tri-prev : (h : ℕ) → h < c .halfEdges → (c .face h ≡ 0 → ⊥) → tri (c .prev h) ≡ tri h
   tri-prev h l i =
       sym (tri-next (c .prev h) (snd .range .prevs h l) (Ch.prev-inner c snd h l i)) ∙ ap tri (snd .next-prev h l)
+
+  -- ---- what a face adds is 0 or 1
+  pub record Adds (h : ℕ) : Type 0 where
+    pub least : High (tri h)
+    pub most : Pos (tri h) → tri h ≡ pos 1
+
+  pub adds-of : (h : ℕ) → h < c .halfEdges → (c .face h ≡ 0 → ⊥) → Is (hi (sg (omega-at h))) → Is (up (sg (omega-at h)) ⇒ ze (sg (omega-at h -ℤ pos 1))) → Adds h
+  adds-of h l i x y =
+      record {
+        least = subst High (sym (tri-om h l i)) (record { is = x });
+        most = λ p.
+            let u : Pos (omega-at h) = subst Pos (tri-om h l i) p in
+            let z : Zero (omega-at h -ℤ pos 1) = record { is = fire y (u .is) } in
+            tri-om h l i ∙ sym (-ℤ-+ℤ-cancel (omega-at h) (pos 1)) ∙ ap (λ (x : ℤ). x +ℤ pos 1) (zero-eq z);
+      }
+
+  -- ---- a face with no corner on the ray's line
+  abbrev pub WoundAt : ℕ → Type 0
+  WoundAt h = Is (Wound (sg (ray ρ q (A h))) (sg (ray ρ q (B h))) (sg (ray ρ q (C h))) (sg (side (B h) (C h) q)) (sg (side (C h) (A h) q)) (sg (side (A h) (B h) q)))
+
+  pub adds-wound : (h : ℕ) → h < c .halfEdges → (c .face h ≡ 0 → ⊥) → WoundAt h → Adds h
+  adds-wound h l i w = adds-of h l i (left w) (left (right w))
+
+  -- it adds something where it holds q strictly
+  pub held-adds : (h : ℕ) → h < c .halfEdges → (c .face h ≡ 0 → ⊥) → WoundAt h → Pos (sd h) → Pos (sd (c .next h)) → Pos (sd (c .prev h)) → Pos (tri h)
+  held-adds h l i w x y z =
+      let y' : Pos (side (B h) (C h) q) = subst Pos (Ch.side-next c snd h q l i) y in
+      let z' : Pos (side (C h) (A h) q) = subst Pos (Ch.side-prev c snd h q l) z in
+      subst Pos (sym (tri-om h l i)) (record { is = fire (left (right (right (right w)))) (both (y' .is) (both (z' .is) (x .is))) })
+
+  -- and where it has q on an open edge that starts left of the ray
+  pub edge-adds : (h : ℕ) → h < c .halfEdges → (c .face h ≡ 0 → ⊥) → WoundAt h → Zero (sd h) → Pos (sd (c .next h)) → Pos (sd (c .prev h)) → Pos (al h) → Pos (tri h)
+  edge-adds h l i w x y z a =
+      let y' : Pos (side (B h) (C h) q) = subst Pos (Ch.side-next c snd h q l i) y in
+      let z' : Pos (side (C h) (A h) q) = subst Pos (Ch.side-prev c snd h q l) z in
+      subst Pos (sym (tri-om h l i)) (record { is = fire (fire (right (right (right (right w)))) (both (x .is) (both (y' .is) (z' .is)))) (a .is) })

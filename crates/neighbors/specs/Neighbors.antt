@@ -7,7 +7,7 @@ use Rattle.faceset.specs.Set.{none, add}
 use Rattle.geometry.specs.declared.Place.{Place}
 use Rattle.chart.specs.Chart.{Chart, partner, outer}
 use Rattle.locate.specs.declared.Location.{Location}
-use Rattle.locate.specs.declared.Location.the-variants.{OnVertex, OnEdge, OnFace, OutsideOfConvexHull, NoPlace}
+use Rattle.locate.specs.declared.Location.the-variants.{OnVertex, OnEdge, OnFace, OutsideOfConvexHull}
 use Rattle.neighbors.specs.declared.Counts.{Counts}
 use Rattle.flips.specs.Search.{Found, found, inspectAll, openedCount}
 
@@ -58,7 +58,6 @@ neighborsOf c q (OnFace f) = faceNeighbors c q f
 neighborsOf c q (OnEdge h) = edgeNeighbors c q h
 neighborsOf c q (OnVertex v) = vertexNeighbors c v
 neighborsOf c q (OutsideOfConvexHull h) = record { edges = []; opened = 0 }
-neighborsOf c q NoPlace = record { edges = []; opened = 0 }
 
 -- a call's answer: how many edges, how many opened faces
 abbrev pub counts : ℕ → ℕ → Counts

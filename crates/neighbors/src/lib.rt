@@ -201,9 +201,5 @@ pub fn get_natural_neighbor_edges(
             count: 0,
             opened: 0,
         },
-        Location::NoPlace => Counts {
-            count: 0,
-            opened: 0,
-        },
     }
 }

@@ -10,7 +10,7 @@ use Rattle.checks.specs.Checks.{Loaded}
 use Rattle.checks.specs.Checks.Loaded.{loaded, refused}
 use Rattle.reading.specs.Reading.{chartIn}
 use Rattle.locate.specs.declared.Location.{Location}
-use Rattle.locate.specs.declared.Location.the-variants.{OnVertex, OnEdge, OnFace, OutsideOfConvexHull, NoPlace}
+use Rattle.locate.specs.declared.Location.the-variants.{OnVertex, OnEdge, OnFace, OutsideOfConvexHull}
 use Rattle.locate.specs.Location.{locationOf}
 use Rattle.query.specs.declared.PositionInTriangulation as P
 use Rattle.query.specs.declared.PositionInTriangulation.{PositionInTriangulation}
@@ -28,17 +28,9 @@ positionSays (P.the-variants.OnFace f) = at (OnFace f)
 positionSays (P.the-variants.OutsideOfConvexHull h) = at (OutsideOfConvexHull h)
 positionSays (P.the-variants.Refused n) = turnedDown n
 
--- 15: no place found; only this call answers "outside" with a half-edge, not 14
-abbrev pub placed : Location → Located
-placed (OnVertex v) = at (OnVertex v)
-placed (OnEdge h) = at (OnEdge h)
-placed (OnFace f) = at (OnFace f)
-placed (OutsideOfConvexHull h) = at (OutsideOfConvexHull h)
-placed NoPlace = turnedDown 15
-
--- 13: x or y not -10,000 to 10,000; then the location
+-- 13: x or y not -10,000 to 10,000; then the location: only this call answers "outside" with a half-edge, not 14
 unfoldable pub locateOn : Chart → Place → Located
-locateOn c q = cond (offGrid q) (turnedDown 13) (placed (locationOf c q))
+locateOn c q = cond (offGrid q) (turnedDown 13) (at (locationOf c q))
 
 -- 3 to 11 come first
 abbrev pub locateIn : Loaded → Place → Located

@@ -60,7 +60,7 @@ edgesAt c q l lent =
     let n = neighborsOf c q l in
     record { answer = listed (length (n .edges)) (n .opened); slice = n .edges ++ drop (length (n .edges)) lent }
 
--- 14: outside the hull; 15: no place found
+-- 14: outside the hull
 abbrev pub edgesFrom : ℕ → Chart → Place → Location → List ℕ → Edges
 edgesFrom zero c q l lent = edgesAt c q l lent
 edgesFrom (suc n) c q l lent = edgesRefused (suc n) lent

@@ -14,7 +14,8 @@ ghost use Rattle.query.specs.Gradient.{gradientSays, gradientOn};
 ghost use Rattle.accepted.specs.Accepted.{Accepted};
 ghost use Rattle.locate.specs.Laws.{Holds};
 ghost use Rattle.query.specs.Natural.{neighborsSay, edgesLeft, edgesAt, edgesOn, settledTally, sharesLeft, sharesAt, sharesOn};
-ghost use Rattle.query.specs.Location.{positionSays, placed, locateOn};
+ghost use Rattle.query.specs.Location.{positionSays, locateOn};
+ghost use Rattle.query.specs.Location.Located.{at};
 ghost use Rattle.weights.specs.Barycentric.{weightsSay};
 ghost use Rattle.query.specs.Weights.{barycentricOn};
 
@@ -29,14 +30,13 @@ pub enum PositionInTriangulation {
 
 // The location as the call answers it.
 fn position(place: Location) -> PositionInTriangulation
-    ensures { λ r. ⌜ positionSays r ≡ placed place ⌝ }
+    ensures { λ r. ⌜ positionSays r ≡ at place ⌝ }
 {
     match place {
         Location::OnVertex(v) => PositionInTriangulation::OnVertex(v as u64),
         Location::OnEdge(h) => PositionInTriangulation::OnEdge(h as u64),
         Location::OnFace(f) => PositionInTriangulation::OnFace(f as u64),
         Location::OutsideOfConvexHull(h) => PositionInTriangulation::OutsideOfConvexHull(h as u64),
-        Location::NoPlace => PositionInTriangulation::Refused(15),
     }
 }
 
@@ -133,7 +133,7 @@ fn edges_at(
     NaturalNeighbors::Listed(n as u64, found.opened as u64)
 }
 
-// On checked tables: 13, 14, 15, then the edges.
+// On checked tables: 13, 14, then the edges.
 pub fn edges_on(
     vertices: &[i64],
     edges: &[usize],

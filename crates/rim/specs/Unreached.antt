@@ -116,13 +116,13 @@ pub record Rows : Type 0 where
   pub face-next : locationOf (crossedBy 0 (pos 0) (pos 1) (pos 9) (pos 1)) (place 2 3) ≡ OnFace 1
   -- "the lowest inner face": strictly left of face 0's three half-edges is in no inner face
   pub no-outer-face : locationOf insideOut (place 2 3) ≡ OutsideOfConvexHull 0
-  -- "else 15"
-  pub no-place : locateOn nothing (place 2 3) ≡ L.turnedDown 15
-  pub no-place-listed : edgesOn nothing (place 2 3) (9 ∷ []) ≡ edgesAre (Tally.turnedDown 15) (9 ∷ [])
-  pub no-place-shared : sharesOn nothing (place 2 3) (9 ∷ []) (bits 1 ∷ []) ≡ sharesAre (Tally.turnedDown 15) (9 ∷ []) (bits 1 ∷ [])
-  pub no-place-weighed : barycentricOn nothing (place 2 3) ≡ B.turnedDown 15
-  pub no-place-valued : valueOn 1 nothing (place 2 3) ≡ turnedDown 15
-  pub no-place-valued-2 : valueOn 2 nothing (place 2 3) ≡ turnedDown 15
+  -- 02, CR 2: no location is refused. Where none of the four holds, as on no accepted chart, the load is outside, and 14 refuses what cannot be answered there
+  pub none-holds : locateOn nothing (place 2 3) ≡ L.at (OutsideOfConvexHull 0)
+  pub none-listed : edgesOn nothing (place 2 3) (9 ∷ []) ≡ edgesAre (Tally.turnedDown 14) (9 ∷ [])
+  pub none-shared : sharesOn nothing (place 2 3) (9 ∷ []) (bits 1 ∷ []) ≡ sharesAre (Tally.turnedDown 14) (9 ∷ []) (bits 1 ∷ [])
+  pub none-weighed : barycentricOn nothing (place 2 3) ≡ B.turnedDown 14
+  pub none-valued : valueOn 1 nothing (place 2 3) ≡ turnedDown 14
+  pub none-valued-2 : valueOn 2 nothing (place 2 3) ≡ turnedDown 14
   -- "a face once opened is not opened again, its edge counts as border; the start face of OnFace counts as opened": seen from outside the circle, so that the
   -- test of the circle, which turns right, would open it
   pub opened-once : faceNeighbors oneFace (place 20 20) 1 ≡ record { edges = 4 ∷ 0 ∷ 2 ∷ []; opened = 1 }
@@ -152,12 +152,12 @@ rows =
       edge-next = refl;
       face-next = refl;
       no-outer-face = refl;
-      no-place = refl;
-      no-place-listed = refl;
-      no-place-shared = refl;
-      no-place-weighed = refl;
-      no-place-valued = refl;
-      no-place-valued-2 = refl;
+      none-holds = refl;
+      none-listed = refl;
+      none-shared = refl;
+      none-weighed = refl;
+      none-valued = refl;
+      none-valued-2 = refl;
       opened-once = refl;
       outer-border = refl;
       astray-shared = refl;

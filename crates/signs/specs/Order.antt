@@ -1,11 +1,13 @@
--- Laws of order that the enumeration of signs proves. Assumes nothing.
+-- Laws of order that the enumeration of signs proves, and the tests of the definitions in signs. Assumes nothing.
 use mathlib.Core.Path.{_≡_, refl, sym, ap, _∙_}
 use mathlib.Core.Logic.{_⊎_, inl, inr}
-use Prim.Native.Nat.{zero, suc}
+use mathlib.Core.Bool.{true, false, false≢true}
+use Prim.Native.Nat.{ℕ, zero, suc, _<_, zero-le}
 use lib.IntN.{ℤ, pos, negsuc, negℤ, _+ℤ_, _-ℤ_, _*ℤ_, negℤ-+ℤ, negℤ-negℤ, +ℤ-comm}
-use lib.Dec.{lt→ltb}
+use lib.Signed.{ltZ}
+use borrow.Author.Tests.{lt-ltb, le-ltb}
 use native.Mathlib.Omega.{arith}
-use Rattle.whole.specs.Sign.{Above}
+use Rattle.whole.specs.Bools.{is-false}
 use Rattle.signs.specs.Signs.{S, below, nil, above, sg, flip, _⊙_, up, dn, ze, lo, hi, ne, fail, _⇒_, _&_, _or_, ev, Is, Pos, Neg, Zero, Low, High, Off, fire, left, right, either, never, test1, test3, every1, every3, sg-mul, sg-neg, poss, sum-ok}
 
 -- ---- one number
@@ -15,24 +17,25 @@ sign-of (pos zero) = inr (inl (record { is = record { is = tt } }))
 sign-of (pos (suc n)) = inr (inr (record { is = record { is = tt } }))
 sign-of (negsuc n) = inl (record { is = record { is = tt } })
 
--- above 0, as the record of `whole` has it
-pub above-pos : {z : ℤ} → Above z → Pos z
+-- of a natural number, and of one below 0
+pub nat-high : (n : ℕ) → High (pos n)
 unfolding sg ev
-above-pos {z = pos zero} h = absurd (h .is)
-above-pos {z = pos (suc n)} h = record { is = record { is = tt } }
-above-pos {z = negsuc n} h = absurd (h .is)
+nat-high zero = record { is = record { is = tt } }
+nat-high (suc n) = record { is = record { is = tt } }
 
-pub pos-above : {z : ℤ} → Pos z → Above z
+pub nat-pos : (n : ℕ) → 0 < n → Pos (pos n)
 unfolding sg ev
-pos-above {z = pos zero} h = absurd (h .is .is)
-pos-above {z = pos (suc n)} h = record { is = lt→ltb 0 (suc n) (omega arith) }
-pos-above {z = negsuc n} h = absurd (h .is .is)
+nat-pos zero h = absurd (omega arith)
+nat-pos (suc n) h = record { is = record { is = tt } }
 
-pub not-above : {z : ℤ} → (Above z → ⊥) → Low z
+pub pos-nat : (n : ℕ) → Pos (pos n) → 0 < n
 unfolding sg ev
-not-above {z = pos zero} h = record { is = record { is = tt } }
-not-above {z = pos (suc n)} h = absurd (h (record { is = lt→ltb 0 (suc n) (omega arith) }))
-not-above {z = negsuc n} h = record { is = record { is = tt } }
+pos-nat zero h = absurd (h .is .is)
+pos-nat (suc n) h = omega arith
+
+pub below-low : {X : Type 0} {n : ℕ} → High (negsuc n) → X
+unfolding sg ev
+below-low h = absurd (h .is .is)
 
 pub one-pos : Pos (pos 1)
 unfolding sg ev
@@ -135,6 +138,43 @@ off-cases {z} o = pick (either (fire (every1 (λ a. ne a ⇒ dn a or up a) tt (s
     pick (inl h) = inl (record { is = h })
     pick (inr h) = inr (record { is = h })
 
+-- ---- the tests of the definitions
+pub test-pos : {z : ℤ} → ltZ (pos 0) z ≡ true → Pos z
+unfolding sg ev
+test-pos {z = pos zero} e = absurd (false≢true e)
+test-pos {z = pos (suc n)} e = record { is = record { is = tt } }
+test-pos {z = negsuc n} e = absurd (false≢true e)
+
+pub pos-test : {z : ℤ} → Pos z → ltZ (pos 0) z ≡ true
+unfolding sg ev
+pos-test {z = pos zero} h = absurd (h .is .is)
+pos-test {z = pos (suc n)} h = lt-ltb 0 (suc n) (omega arith)
+pos-test {z = negsuc n} h = absurd (h .is .is)
+
+pub test-neg : {z : ℤ} → ltZ z (pos 0) ≡ true → Neg z
+unfolding sg ev
+test-neg {z = pos n} e = absurd (false≢true (sym (le-ltb n 0 zero-le) ∙ e))
+test-neg {z = negsuc n} e = record { is = record { is = tt } }
+
+pub neg-test : {z : ℤ} → Neg z → ltZ z (pos 0) ≡ true
+unfolding sg ev
+neg-test {z = pos zero} h = absurd (h .is .is)
+neg-test {z = pos (suc n)} h = absurd (h .is .is)
+neg-test {z = negsuc n} h = refl
+
+pub not-pos : {z : ℤ} → (Pos z → ⊥) → Low z
+not-pos {z} h = pick (low-or-pos z)
+  where
+    pick : Low z ⊎ Pos z → Low z
+    pick (inl l) = l
+    pick (inr p) = absurd (h p)
+
+pub test-low : {z : ℤ} → ltZ (pos 0) z ≡ false → Low z
+test-low e = not-pos (λ p. false≢true (sym e ∙ pos-test p))
+
+pub low-test : {z : ℤ} → Low z → ltZ (pos 0) z ≡ false
+low-test {z} h = is-false (ltZ (pos 0) z) (λ e. pos-low (test-pos e) h)
+
 -- ---- the negation
 pub neg-pos : {y z : ℤ} → y ≡ negℤ z → Pos z → Neg y
 unfolding flip ev
@@ -156,6 +196,10 @@ pub neg-hi : {y z : ℤ} → y ≡ negℤ z → High z → Low y
 unfolding flip test1
 neg-hi {y} {z} e h = record { is = rw (e, sg-neg z) (fire (every1 (λ a. hi a ⇒ lo (flip a)) tt (sg z)) (h .is)) }
 
+pub neg-ne : {y z : ℤ} → y ≡ negℤ z → Off z → Off y
+unfolding flip test1
+neg-ne {y} {z} e h = record { is = rw (e, sg-neg z) (fire (every1 (λ a. ne a ⇒ ne (flip a)) tt (sg z)) (h .is)) }
+
 pub sub-flip : (x y : ℤ) → y -ℤ x ≡ negℤ (x -ℤ y)
 sub-flip x y = sym (negℤ-+ℤ x (negℤ y) ∙ ap (λ (u : ℤ). negℤ x +ℤ u) (negℤ-negℤ y) ∙ +ℤ-comm (negℤ x) y)
 
@@ -164,6 +208,11 @@ pub add-high : {x y : ℤ} → High x → High y → High (x +ℤ y)
 unfolding test3
 add-high {x} {y} h k =
     record { is = fire (fire (fire (every3 (λ a b c. poss a b c ⇒ hi a ⇒ hi b ⇒ hi c) tt (sg x) (sg y) (sg (x +ℤ y))) (sum-ok x y)) (h .is)) (k .is) }
+
+pub add-low : {x y : ℤ} → Low x → Low y → Low (x +ℤ y)
+unfolding test3
+add-low {x} {y} h k =
+    record { is = fire (fire (fire (every3 (λ a b c. poss a b c ⇒ lo a ⇒ lo b ⇒ lo c) tt (sg x) (sg y) (sg (x +ℤ y))) (sum-ok x y)) (h .is)) (k .is) }
 
 pub add-pos : {x y : ℤ} → Pos x → High y → Pos (x +ℤ y)
 unfolding test3
@@ -174,6 +223,24 @@ pub add-neg : {x y : ℤ} → Neg x → Low y → Neg (x +ℤ y)
 unfolding test3
 add-neg {x} {y} h k =
     record { is = fire (fire (fire (every3 (λ a b c. poss a b c ⇒ dn a ⇒ lo b ⇒ dn c) tt (sg x) (sg y) (sg (x +ℤ y))) (sum-ok x y)) (h .is)) (k .is) }
+
+-- ---- products
+pub mul-pos : {x y : ℤ} → Pos x → Pos y → Pos (x *ℤ y)
+unfolding ev _⊙_
+mul-pos {x} {y} h k = record { is = rw (sg-mul x y, pos-sg h, pos-sg k) (record { is = tt }) }
+
+-- the other factor
+pub cancel-pos : (x y : ℤ) → Pos x → Pos (x *ℤ y) → Pos y
+unfolding _⊙_
+cancel-pos x y h k = record { is = rw (sg-mul x y, pos-sg h) at (k .is) }
+
+-- two numbers whose product and sum are above 0
+pub both-pos : (x y : ℤ) → Pos (x *ℤ y) → Pos (x +ℤ y) → Pos x × Pos y
+unfolding test3 _⊙_ flip
+both-pos x y p s =
+    let m : Is (up (sg x ⊙ sg y)) = rw (sg-mul x y) at (p .is) in
+    let r = fire (fire (fire (every3 (λ a b c. poss a b c ⇒ up (a ⊙ b) ⇒ up c ⇒ up a & up b) tt (sg x) (sg y) (sg (x +ℤ y))) (sum-ok x y)) m) (s .is) in
+    (record { is = left r }, record { is = right r })
 
 -- ---- squares
 squares : (u v : ℤ) → Is (hi (sg (u *ℤ u +ℤ v *ℤ v)) & (ze (sg (u *ℤ u +ℤ v *ℤ v)) ⇒ ze (sg u) & ze (sg v)))

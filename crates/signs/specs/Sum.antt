@@ -1,5 +1,5 @@
 -- Finite sums of whole numbers: added, negated, exchanged, in another order, one summand apart. Assumes nothing.
-use mathlib.Core.Path.{_≡_, refl, sym, ap, _∙_}
+use mathlib.Core.Path.{_≡_, refl, sym, subst, ap, _∙_}
 use mathlib.Core.Bool.{Bool, true, false, cond}
 use Prim.Native.Nat.{ℕ, zero, suc, _<_, _≤_}
 use native.Mathlib.Nat.{lt-irrefl}
@@ -11,8 +11,8 @@ use mathlib.Core.List.{[], _∷_}
 use Rattle.whole.specs.Bools.{same-test}
 use Rattle.whole.specs.Poly.{var, _⊕_, env, agree, solve! }
 use mathlib.Core.Logic.{_⊎_, inl, inr}
-use Rattle.signs.specs.Signs.{Pos, Neg, Zero, High, eq-zero}
-use Rattle.signs.specs.Order.{sign-of, zero-high, add-high, pos-neg, neg-neg, neg-pos}
+use Rattle.signs.specs.Signs.{Pos, Neg, Zero, Low, High, eq-zero}
+use Rattle.signs.specs.Order.{sign-of, zero-high, low-or-pos, low-high, pos-low, pos-zero, add-high, add-low, add-pos, pos-neg, neg-neg, neg-pos}
 
 -- two sums, added term by term
 swap-mid : (a b c d : ℤ) → (a +ℤ b) +ℤ (c +ℤ d) ≡ (a +ℤ c) +ℤ (b +ℤ d)
@@ -132,6 +132,46 @@ without-high g k i h = step (eqb i k)
 
 pub rest-high : (g : ℕ → ℤ) (k n : ℕ) → ((i : ℕ) → i < n → High (g i)) → (i : ℕ) → i < n → High (without k g i)
 rest-high g k n h i l = without-high g k i (h i l)
+
+-- where it is 0, so is each of them
+pub sum-none : (g : ℕ → ℤ) (n : ℕ) → ((i : ℕ) → i < n → High (g i)) → sum g n ≡ pos 0 → (k : ℕ) → k < n → Zero (g k)
+sum-none g n h e k l = pick (low-or-pos (g k))
+  where
+    pick : Low (g k) ⊎ Pos (g k) → Zero (g k)
+    pick (inl s) = low-high s (h k l)
+    pick (inr s) =
+        let t : Pos (sum g n) = subst Pos (sym (sum-pull g k n l)) (add-pos s (sum-high (without k g) n (rest-high g k n h))) in
+        absurd (pos-zero t (eq-zero e))
+
+-- four of them that are 1
+pub four-ones : (g : ℕ → ℤ) (n i j k l : ℕ) → ((h : ℕ) → h < n → High (g h)) → i < n → j < n → k < n → l < n → (j ≡ i → ⊥) → (k ≡ i → ⊥) → (k ≡ j → ⊥) → (l ≡ i → ⊥) → (l ≡ j → ⊥) → (l ≡ k → ⊥) → g i ≡ pos 1 → g j ≡ pos 1 → g k ≡ pos 1 → g l ≡ pos 1 → (x : ℤ) × (sum g n ≡ pos 1 +ℤ (pos 1 +ℤ (pos 1 +ℤ (pos 1 +ℤ x)))) × High x
+four-ones g n i j k l hg il jl kl ll ji ki kj li lj lk gi gj gk gl =
+    let g1 = without i g in
+    let g2 = without j g1 in
+    let g3 = without k g2 in
+    let g4 = without l g3 in
+    let h1 = rest-high g i n hg in
+    let h2 = rest-high g1 j n h1 in
+    let h3 = rest-high g2 k n h2 in
+    let h4 = rest-high g3 l n h3 in
+    let e1 : sum g n ≡ pos 1 +ℤ sum g1 n = sum-pull g i n il ∙ ap (λ (x : ℤ). x +ℤ sum g1 n) gi in
+    let e2 : sum g1 n ≡ pos 1 +ℤ sum g2 n = sum-pull g1 j n jl ∙ ap (λ (x : ℤ). x +ℤ sum g2 n) (without-other i g j ji ∙ gj) in
+    let e3 : sum g2 n ≡ pos 1 +ℤ sum g3 n =
+    sum-pull g2 k n kl ∙ ap (λ (x : ℤ). x +ℤ sum g3 n) (without-other j g1 k kj ∙ without-other i g k ki ∙ gk) in
+    let e4 : sum g3 n ≡ pos 1 +ℤ sum g4 n =
+    sum-pull g3 l n ll ∙ ap (λ (x : ℤ). x +ℤ sum g4 n) (without-other k g2 l lk ∙ without-other j g1 l lj ∙ without-other i g l li ∙ gl) in
+    (sum g4 n, e1 ∙ ap (λ (x : ℤ). pos 1 +ℤ x) (e2 ∙ ap (λ (x : ℤ). pos 1 +ℤ x) (e3 ∙ ap (λ (x : ℤ). pos 1 +ℤ x) e4)), sum-high g4 n h4)
+
+-- ---- a sum above 0 has a summand above 0
+pub sum-some : (g : ℕ → ℤ) (n : ℕ) → Pos (sum g n) → (i : ℕ) × (i < n) × Pos (g i)
+unfolding sum
+sum-some g zero h = absurd (pos-zero h (eq-zero refl))
+sum-some g (suc n) h = step (low-or-pos (g n)) (low-or-pos (sum g n)) (sum-some g n)
+  where
+    step : Low (g n) ⊎ Pos (g n) → Low (sum g n) ⊎ Pos (sum g n) → (Pos (sum g n) → (i : ℕ) × (i < n) × Pos (g i)) → (i : ℕ) × (i < suc n) × Pos (g i)
+    step (inr p) s ih = (n, omega arith, p)
+    step (inl p) (inl s) ih = absurd (pos-low h (add-low s p))
+    step (inl p) (inr s) ih = let r = ih s in let l : r .0 < n = r .1 in (r .0, omega arith, r .2)
 
 -- a number that is its own negation
 pub self-neg : (z : ℤ) → z ≡ negℤ z → Zero z

@@ -5,7 +5,7 @@ use Prim.Native.Nat.{ℕ}
 use lib.Ieee.{Float}
 use lib.ListN.{length}
 use Rattle.locate.specs.declared.Location.{Location}
-use Rattle.locate.specs.declared.Location.the-variants.{OnVertex, OnEdge, OnFace, OutsideOfConvexHull, NoPlace}
+use Rattle.locate.specs.declared.Location.the-variants.{OnVertex, OnEdge, OnFace, OutsideOfConvexHull}
 use Rattle.weights.specs.Barycentric.{Weights, verticesOf, weightsOf}
 use Rattle.values.specs.Value.{Answer}
 use Rattle.query.specs.Location as L
@@ -25,7 +25,6 @@ placeNumbers (OnVertex v) = 1 ∷ v ∷ []
 placeNumbers (OnEdge h) = 2 ∷ h ∷ []
 placeNumbers (OnFace f) = 3 ∷ f ∷ []
 placeNumbers (OutsideOfConvexHull h) = 4 ∷ h ∷ []
-placeNumbers NoPlace = []
 
 abbrev pub locatedLeft : L.Located → List ℕ → Left ℕ
 locatedLeft (L.Located.at l) lent = record { answer = 0; slice = overlay (placeNumbers l) lent }

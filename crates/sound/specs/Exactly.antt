@@ -10,7 +10,8 @@ use borrow.Author.Tests.{eq-eqb, ne-eqb, eqb-true, eqb-false, ltb-true}
 use Rattle.whole.specs.Bools.{or-first, or-second, and-true, is-false}
 use Rattle.whole.specs.Test.{eqZ, eqZ-true}
 use Rattle.whole.specs.First.{some, some-none}
-use Rattle.whole.specs.Sign.{Above, test-above, above-test}
+use Rattle.signs.specs.Signs.{Pos}
+use Rattle.signs.specs.Order.{test-pos, pos-test}
 use Rattle.geometry.specs.declared.Place.{Place}
 use Rattle.geometry.specs.Plane.{side}
 use Rattle.geometry.specs.Laws.{place-eq, side-turn}
@@ -122,7 +123,7 @@ module _ (c : Chart) (a : Sound c) where
       let g = c .adjacent f in
       let s : side (c .place (corner₀ c f)) (c .place (corner₁ c f)) (c .place (corner₂ c f)) ≡ side (start c g) (end c g) (apex c g) =
       ap (λ (x : Place). side (apex c g) (start c g) x) (third f l) ∙ side-turn (apex c g) (start c g) (end c g) in
-      false≢true (sym (not-of (turnsLeft c f) (above-test (subst Above (sym s) (a .turns-left g (inner-of f (t .0) l))))) ∙ t .1))
+      false≢true (sym (not-of (turnsLeft c f) (pos-test (subst Pos (sym s) (a .turns-left g (inner-of f (t .0) l))))) ∙ t .1))
 
   -- ---- 10
   no-overhang : (h : ℕ) → h < c .halfEdges → overhung c h ≡ false
@@ -133,7 +134,7 @@ module _ (c : Chart) (a : Sound c) where
       false≢true
       (sym
       (some-none (liesLeft (c .place) (start c h) (end c h)) (c .vertices)
-      (λ z m. is-false (liesLeft (c .place) (start c h) (end c h) z) (λ g. a .hull h z (l, eqb-true (c .face h) 0 (t .0)) m (test-above g))))
+      (λ z m. is-false (liesLeft (c .place) (start c h) (end c h) z) (λ g. a .hull h z (l, eqb-true (c .face h) 0 (t .0)) m (test-pos g))))
       ∙ t .1))
 
   -- ---- rows 7 to 10

@@ -4,7 +4,7 @@ use mathlib.Core.Logic.{_⊎_, inl, inr}
 use Prim.Native.Nat.{ℕ, _<_}
 use native.Mathlib.Omega.{arith}
 use borrow.Author.Tests.{eqb-true, eqb-false, not-true}
-use Rattle.whole.specs.Sign.{Above}
+use Rattle.signs.specs.Signs.{Pos}
 use Rattle.geometry.specs.declared.Place.{Place}
 use Rattle.geometry.specs.Plane.{side}
 use Rattle.geometry.specs.Laws.{side-turn}
@@ -41,8 +41,8 @@ pub record Sound (c : Chart) : Type 0 where
   -- inner faces are triangles: from start to end to apex
   pub next-next : (h : ℕ) → Inner c h → c .next (c .next h) ≡ c .prev h
   -- they turn strictly left, and no vertex is strictly left of an outer half-edge
-  pub turns-left : (h : ℕ) → Inner c h → Above (side (start c h) (end c h) (apex c h))
-  pub hull : (h z : ℕ) → Outer c h → z < c .vertices → Above (side (start c h) (end c h) (c .place z)) → ⊥
+  pub turns-left : (h : ℕ) → Inner c h → Pos (side (start c h) (end c h) (apex c h))
+  pub hull : (h z : ℕ) → Outer c h → z < c .vertices → Pos (side (start c h) (end c h) (c .place z)) → ⊥
   -- different vertices have different places, and the ends of a half-edge differ
   pub one-place : (v w : ℕ) → v < c .vertices → w < c .vertices → c .place v ≡ c .place w → v ≡ w
   pub ends-differ : (h : ℕ) → h < c .halfEdges → c .origin h ≡ c .origin (partner h) → ⊥
@@ -130,15 +130,15 @@ module _ (c : Chart) (n : 1 < c .faces) (r : InRange c) (p : Passed c) where
   corner₂-end : (f : ℕ) → f < c .faces → c .place (corner₂ c f) ≡ end c (c .adjacent f)
   corner₂-end f l = ap (c .place) (starts (c .adjacent f) (r .adjacents f l))
 
-  left-turn : (h : ℕ) → Inner c h → Above (side (start c h) (end c h) (apex c h))
+  left-turn : (h : ℕ) → Inner c h → Pos (side (start c h) (end c h) (apex c h))
   left-turn =
-      around (λ h. Above (side (start c h) (end c h) (apex c h)))
+      around (λ h. Pos (side (start c h) (end c h) (apex c h)))
       (λ f z l.
-      subst Above
+      subst Pos
       (ap (λ (x : Place). side (apex c (c .adjacent f)) (start c (c .adjacent f)) x) (corner₂-end f l)
       ∙ side-turn (apex c (c .adjacent f)) (start c (c .adjacent f)) (end c (c .adjacent f)))
       (turn-at c p f z l))
-      (λ h i a. subst Above (sym (side-next h i)) a)
+      (λ h i a. subst Pos (sym (side-next h i)) a)
 
   next-other : (h : ℕ) → h < c .halfEdges → c .next h ≡ h → ⊥
   next-other h l e = apart h l (ap (c .origin) (sym e) ∙ starts h l)

@@ -9,7 +9,8 @@ use borrow.Author.Tests.{eq-eqb, eqb-true, ltb-true, lt-ltb, not-false}
 use Rattle.whole.specs.Bools.{or-false, and-true, and-left}
 use Rattle.whole.specs.Test.{eq-eqZ}
 use Rattle.whole.specs.First.{some, none-at}
-use Rattle.whole.specs.Sign.{Above, test-above, above-test}
+use Rattle.signs.specs.Signs.{Pos}
+use Rattle.signs.specs.Order.{test-pos, pos-test}
 use Rattle.geometry.specs.declared.Place.{Place}
 use Rattle.geometry.specs.Plane.{side}
 use Rattle.chart.specs.Chart.{Chart, partner, outer, corner₀, corner₁, corner₂}
@@ -103,15 +104,15 @@ module _ (c : Chart) (p : Passed c) where
       same false x false y = omega (arith, borrow.Author.Tests.ltb-false v w x, borrow.Author.Tests.ltb-false w v y)
 
   -- ---- 9, 10
-  pub turn-at : (f : ℕ) → 0 < f → f < c .faces → Above (side (c .place (corner₀ c f)) (c .place (corner₁ c f)) (c .place (corner₂ c f)))
+  pub turn-at : (f : ℕ) → 0 < f → f < c .faces → Pos (side (c .place (corner₀ c f)) (c .place (corner₁ c f)) (c .place (corner₂ c f)))
   turn-at f z l =
-      test-above (not-false (turnsLeft c f) (and-left (ltb 0 f) (not (turnsLeft c f)) (none-at (notLeft c) (c .faces) (p .turns) f l) (lt-ltb 0 f z)))
+      test-pos (not-false (turnsLeft c f) (and-left (ltb 0 f) (not (turnsLeft c f)) (none-at (notLeft c) (c .faces) (p .turns) f l) (lt-ltb 0 f z)))
 
-  pub rim-at : (h z : ℕ) → h < c .halfEdges → z < c .vertices → c .face h ≡ 0 → Above (side (c .place (c .origin h)) (c .place (c .origin (partner h))) (c .place z)) → ⊥
+  pub rim-at : (h z : ℕ) → h < c .halfEdges → z < c .vertices → c .face h ≡ 0 → Pos (side (c .place (c .origin h)) (c .place (c .origin (partner h))) (c .place z)) → ⊥
   rim-at h z l m o a =
       let s = liesLeft (c .place) (c .place (c .origin h)) (c .place (c .origin (partner h))) in
       let n = and-left (outer c h) (some s (c .vertices)) (none-at (overhung c) (c .halfEdges) (p .rim) h l) (eq-eqb (c .face h) 0 o) in
-      false≢true (sym (none-at s (c .vertices) n z m) ∙ above-test a)
+      false≢true (sym (none-at s (c .vertices) n z m) ∙ pos-test a)
 
   -- ---- the two clauses about inner faces
   inner-test : (h : ℕ) → (c .face h ≡ 0 → ⊥) → outer c h ≡ true → ⊥

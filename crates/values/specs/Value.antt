@@ -14,7 +14,7 @@ use Rattle.geometry.specs.declared.Place.{Place}
 use Rattle.geometry.specs.Plane.{offGrid}
 use Rattle.chart.specs.Chart.{Chart, InRange, partner, partner-in}
 use Rattle.locate.specs.declared.Location.{Location}
-use Rattle.locate.specs.declared.Location.the-variants.{OnVertex, OnEdge, OnFace, OutsideOfConvexHull, NoPlace}
+use Rattle.locate.specs.declared.Location.the-variants.{OnVertex, OnEdge, OnFace, OutsideOfConvexHull}
 use Rattle.locate.specs.Location.{locationOf}
 use Rattle.locate.specs.Laws.{Holds}
 use Rattle.neighbors.specs.Neighbors.{neighborsOf}
@@ -62,7 +62,7 @@ naturalValue m c q list = fromShares m c q (map (c .origin) list) (sharesOf c q 
 abbrev pub valueAt : ℕ → Chart → Place → Location → Answer
 valueAt m c q l = cond (eqb m 1) (barycentricValue c (barycentricAt c q l)) (naturalValue m c q (neighborsOf c q l .edges))
 
--- 14: outside the hull; 15: no place found
+-- 14: outside the hull
 abbrev pub valueFrom : ℕ → ℕ → Chart → Place → Location → Answer
 valueFrom zero m c q l = valueAt m c q l
 valueFrom (suc n) m c q l = turnedDown (suc n)
@@ -99,7 +99,6 @@ barycentric-up-to-15 c q (OnVertex v) = tt
 barycentric-up-to-15 c q (OnEdge h) = tt
 barycentric-up-to-15 c q (OnFace f) = tt
 barycentric-up-to-15 c q (OutsideOfConvexHull h) = omega arith
-barycentric-up-to-15 c q NoPlace = omega arith
 
 shares-up-to-15 : (m : ℕ) (c : Chart) (q : Place) (os : List ℕ) (t : Shares) → UpTo15 (fromShares m c q os t)
 shares-up-to-15 m c q os broken = omega arith
@@ -115,7 +114,6 @@ from-up-to-15 m c q (OnVertex v) = at-up-to-15 m c q (OnVertex v)
 from-up-to-15 m c q (OnEdge h) = at-up-to-15 m c q (OnEdge h)
 from-up-to-15 m c q (OnFace f) = at-up-to-15 m c q (OnFace f)
 from-up-to-15 m c q (OutsideOfConvexHull h) = omega arith
-from-up-to-15 m c q NoPlace = omega arith
 
 pub value-up-to-15 : (m : ℕ) (c : Chart) (q : Place) → UpTo15 (valueOn m c q)
 unfolding valueOn locatedValue
@@ -147,7 +145,6 @@ barycentric-owners c q (OnFace f) r h =
     let a = r .adjacents f (h .0) in
     in-more c _ (c .origin (c .adjacent f) ∷ c .origin (c .next (c .adjacent f)) ∷ []) (r .origins _ (r .prevs _ a)) (in-more c _ (c .origin (c .next (c .adjacent f)) ∷ []) (r .origins _ a) (in-one c _ (r .origins _ (r .nexts _ a))))
 barycentric-owners c q (OutsideOfConvexHull e) r h = in-none c
-barycentric-owners c q NoPlace r h = in-none c
 
 pub listed-owners : (c : Chart) → InRange c → (list : List ℕ) → ((k : ℕ) → k < length list → getD list k 0 < c .halfEdges) → Owners c (map (c .origin) list)
 listed-owners c r [] b = in-none c

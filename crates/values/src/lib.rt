@@ -39,7 +39,6 @@ pub fn weights_at(
         Location::OnEdge(h) => weights::edge_weights(vertices, edges, faces, q, h),
         Location::OnFace(f) => weights::face_weights(vertices, edges, faces, q, f),
         Location::OutsideOfConvexHull(_) => BarycentricWeights::Refused(14),
-        Location::NoPlace => BarycentricWeights::Refused(15),
     }
 }
 
@@ -50,7 +49,7 @@ pub fn list_room() -> [usize; 756]
     [0usize; 756]
 }
 
-// 14 for a load outside the hull, 15 for one without a place, else 0.
+// 14 for a load outside the hull, else 0.
 pub fn place_refusal(place: Location) -> u64
     ensures { λ r. ⌜ r ≡ placeRefusal place ⌝ }
 {
@@ -59,7 +58,6 @@ pub fn place_refusal(place: Location) -> u64
         Location::OnEdge(_) => 0,
         Location::OnFace(_) => 0,
         Location::OutsideOfConvexHull(_) => 14,
-        Location::NoPlace => 15,
     }
 }
 
@@ -211,7 +209,7 @@ fn value_at(
     )
 }
 
-// At a load on the grid, by a known method: 14, 15, then the value. A batch draws the lines and estimates the gradients once.
+// At a load on the grid, by a known method: 14, then the value, or 15. A batch draws the lines and estimates the gradients once.
 pub fn located_value(
     vertices: &[i64],
     edges: &[usize],
@@ -247,7 +245,7 @@ pub fn located_value(
     )
 }
 
-// On checked tables: 12, 13, 14, 15, then the value.
+// On checked tables: 12, 13, 14, then the value, or 15.
 pub fn value_on(
     vertices: &[i64],
     edges: &[usize],

@@ -23,6 +23,10 @@ pub and-true : (a b : Bool) → (a && b) ≡ true → (a ≡ true) × (b ≡ tru
 and-true true b e = (refl, e)
 and-true false b e = absurd (false≢true e)
 
+pub and-both : (a b : Bool) → a ≡ true → b ≡ true → (a && b) ≡ true
+and-both true b x y = y
+and-both false b x y = x
+
 -- not both of two tests hold, but the first does
 pub and-left : (a b : Bool) → (a && b) ≡ false → a ≡ true → b ≡ false
 and-left true b e h = e

@@ -4,6 +4,5 @@ pub mod Bound
 pub mod First
 pub mod Ring
 pub mod Poly
-pub mod Sign
 pub mod Orbit
 pub mod Fractions

@@ -1,9 +1,12 @@
--- Equality of whole numbers as a test that computes, with the facts that a test of the code's leaves. Assumes nothing.
+-- Tests of whole numbers that compute, with the facts that a test of the code's leaves. Assumes nothing.
 use mathlib.Core.Path.{_≡_, refl, ap, subst, sym, _∙_}
 use mathlib.Core.Bool.{Bool, true, false}
-use lib.IntN.{ℤ, pos, negsuc}
+use Prim.Native.Nat.{zero, suc, _+_, zero-le}
+use native.Mathlib.Omega.{arith}
+use lib.IntN.{ℤ, pos, negsuc, _-ℤ_}
+use lib.Signed.{ltZ}
 use lib.Dec.{T, eqb}
-use borrow.Author.Tests.{eq-eqb, eqb-true}
+use borrow.Author.Tests.{eq-eqb, eqb-true, lt-ltb, le-ltb}
 use Rattle.whole.specs.Bools.{same-test, is-false}
 use mir.Syntax.{w64}
 use mir.Val.{SFits, toZ, ofZ}
@@ -35,6 +38,12 @@ eq-eqZ a b e = subst (λ (c : ℤ). eqZ a c ≡ true) e (eqZ-refl a)
 -- different numbers do not
 pub ne-eqZ : (a b : ℤ) → (a ≡ b → ⊥) → eqZ a b ≡ false
 ne-eqZ a b h = is-false (eqZ a b) (λ e. h (eqZ-true a b e))
+
+-- a number is below 0 where its negative is above
+pub below-zero : (z : ℤ) → ltZ (pos 0) (pos 0 -ℤ z) ≡ ltZ z (pos 0)
+below-zero (pos zero) = refl
+below-zero (pos (suc n)) = simp (lt-ltb 0 (suc n) (omega arith), le-ltb (suc n) 0 zero-le)
+below-zero (negsuc n) = lt-ltb 0 (0 + suc n) (omega arith)
 
 -- the code's `==` on an i64 compares the bits
 pub bits-true : {a b : ℤ} → SFits w64 a → SFits w64 b → ofZ w64 a ≡ ofZ w64 b → eqZ a b ≡ true

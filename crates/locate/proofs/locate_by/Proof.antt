@@ -44,11 +44,7 @@ find-outer-requires c κs = (c .before .before .before .before .before .before .
 
 returns-4 : tie.Need-returns-4
 unfolding locationOf
-returns-4 c = rw (← c .before .before .before .before .before .before .before .before .before .before .before .before .find-vertex .ensures, le-ltb _ _ (c .before .before .before .before .before .before .before .before .before .before .before .if1 .left), ← c .before .before .before .before .before .before .before .before .find-edge .ensures .0, le-ltb _ _ (c .before .before .before .before .before .before .if2 .left), ← c .before .before .before .before .find-face .ensures, le-ltb _ _ (c .before .before .before .if3 .left), ← c .before .find-outer .ensures, lt-ltb _ _ (c .if4 .taken))
-
-returns-5 : tie.Need-returns-5
-unfolding locationOf
-returns-5 c = rw (← c .before .before .before .before .before .before .before .before .before .before .before .before .find-vertex .ensures, le-ltb _ _ (c .before .before .before .before .before .before .before .before .before .before .before .if1 .left), ← c .before .before .before .before .before .before .before .before .find-edge .ensures .0, le-ltb _ _ (c .before .before .before .before .before .before .if2 .left), ← c .before .before .before .before .find-face .ensures, le-ltb _ _ (c .before .before .before .if3 .left), ← c .before .find-outer .ensures, le-ltb _ _ (c .if4 .left))
+returns-4 c = rw (← c .before .before .before .before .before .before .before .before .before .before .before .find-vertex .ensures, le-ltb _ _ (c .before .before .before .before .before .before .before .before .before .before .if1 .left), ← c .before .before .before .before .before .before .before .find-edge .ensures .0, le-ltb _ _ (c .before .before .before .before .before .if2 .left), ← c .before .before .before .find-face .ensures, le-ltb _ _ (c .before .before .if3 .left), ← c .find-outer .ensures)
 
 pub locate-by-spec : {M : Type 1} → statement M
 locate-by-spec =
@@ -65,5 +61,4 @@ locate-by-spec =
     returns-3
     slice-aggregate-find-outer
     find-outer-requires
-    returns-4
-    returns-5)
+    returns-4)

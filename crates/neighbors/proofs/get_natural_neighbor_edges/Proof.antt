@@ -26,9 +26,6 @@ face-neighbors-requires c κs = let s = c .before .before .before .before .befor
 enum-told : tie.Need-enum-told
 enum-told c = search needs
 
-enum-told-2 : tie.Need-enum-told-2
-enum-told-2 c = search needs
-
 same-length : tie.Need-same-length
 same-length c = search needs
 
@@ -54,10 +51,6 @@ returns-4 : tie.Need-returns-4
 unfolding neighborsOf written
 returns-4 c = rw (c .enum-told .given .1)
 
-returns-5 : tie.Need-returns-5
-unfolding neighborsOf written
-returns-5 c = rw (c .enum-told2 .given .1)
-
 pub get-natural-neighbor-edges-spec : {M : Type 1} → statement M
 get-natural-neighbor-edges-spec =
     tie.close
@@ -69,12 +62,10 @@ get-natural-neighbor-edges-spec =
     enum-known-location-3
     face-neighbors-requires
     enum-told
-    enum-told-2
     same-length
     returns
     same-length-2
     returns-2
     same-length-3
     returns-3
-    returns-4
-    returns-5)
+    returns-4)

@@ -1,7 +1,8 @@
 -- `query::locate_on` meets its contract. Assumes nothing.
 use mathlib.Core.Path.{sym, ap, _∙_}
 use Rattle.geometry.specs.Plane.{on-grid}
-use Rattle.query.specs.Location.{placed, locateOn}
+use Rattle.query.specs.Location.{locateOn}
+use Rattle.query.specs.Location.Located.{at}
 use borrow.Author.Needs.{needs}
 use Rattle.query.proofs.locate_on.Statement.{statement}
 use Rattle.query.proofs.locate_on.Tie as tie
@@ -23,7 +24,7 @@ returns-2 : tie.Need-returns-2
 unfolding locateOn
 returns-2 c =
     rw (sym (c .before .before .before .off-grid .ensures) ∙ c .before .before .if1 .left)
-    (c .position .ensures ∙ ap placed (c .before .locate .ensures))
+    (c .position .ensures ∙ ap at (c .before .locate .ensures))
 
 pub locate-on-spec : {M : Type 1} → statement M
 locate-on-spec =

@@ -1,6 +1,6 @@
 -- `query::position` meets its contract. Assumes nothing.
 use mathlib.Core.Path.{sym, ap}
-use Rattle.query.specs.Location.{placed}
+use Rattle.query.specs.Location.Located.{at}
 use borrow.Author.Needs.{needs}
 use Rattle.query.proofs.position.Statement.{statement}
 use Rattle.query.proofs.position.Tie as tie
@@ -17,23 +17,17 @@ enum-known-place-3 c = search needs
 enum-known-place-4 : tie.Need-enum-known-place-4
 enum-known-place-4 c = search needs
 
-enum-told : tie.Need-enum-told
-enum-told c = search needs
-
 returns : tie.Need-returns
-returns c = sym (ap placed (c .before .place .given .1))
+returns c = sym (ap at (c .before .place .given .1))
 
 returns-2 : tie.Need-returns-2
-returns-2 c = sym (ap placed (c .before .place2 .given .1))
+returns-2 c = sym (ap at (c .before .place2 .given .1))
 
 returns-3 : tie.Need-returns-3
-returns-3 c = sym (ap placed (c .before .place3 .given .1))
+returns-3 c = sym (ap at (c .before .place3 .given .1))
 
 returns-4 : tie.Need-returns-4
-returns-4 c = sym (ap placed (c .before .place4 .given .1))
-
-returns-5 : tie.Need-returns-5
-returns-5 c = search needs
+returns-4 c = sym (ap at (c .before .place4 .given .1))
 
 pub position-spec : {M : Type 1} → statement M
 position-spec =
@@ -43,9 +37,7 @@ position-spec =
     enum-known-place-2
     enum-known-place-3
     enum-known-place-4
-    enum-told
     returns
     returns-2
     returns-3
-    returns-4
-    returns-5)
+    returns-4)

@@ -32,9 +32,6 @@ face-weights-requires c κs =
 enum-told : tie.Need-enum-told
 enum-told c = search needs
 
-enum-told-2 : tie.Need-enum-told-2
-enum-told-2 c = search needs
-
 returns : tie.Need-returns
 returns c = let a = c .before .before .before .before .before .before .args in c .vertex-weights .ensures ∙ sym (ap (barycentricAt (chartOf (a .vertices .now) (a .edges .now) (a .faces .now)) (a .q)) (c .before .before .place .given .1))
 
@@ -47,9 +44,6 @@ returns-3 c = let a = c .before .before .before .before .before .before .args in
 returns-4 : tie.Need-returns-4
 returns-4 c = search needs
 
-returns-5 : tie.Need-returns-5
-returns-5 c = search needs
-
 pub weights-at-spec : {M : Type 1} → statement M
 weights-at-spec =
     tie.close
@@ -61,9 +55,7 @@ weights-at-spec =
     enum-known-place-3
     face-weights-requires
     enum-told
-    enum-told-2
     returns
     returns-2
     returns-3
-    returns-4
-    returns-5)
+    returns-4)

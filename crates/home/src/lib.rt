@@ -1,0 +1,1 @@
+// Every load inside the rim has a home: everything is in specs/.

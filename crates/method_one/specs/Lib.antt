@@ -1,0 +1,2 @@
+pub mod MethodOne
+pub mod Answers

@@ -1,0 +1,1 @@
+// Whether a bend by method 1 is accepted: everything is in specs/.
