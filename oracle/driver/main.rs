@@ -109,6 +109,8 @@ type Weights = Result<Vec<(usize, f64)>, u32>;
 type Edges = Result<(usize, Vec<usize>), u32>;
 type Shares = Result<(usize, Vec<(usize, f64)>), u32>;
 
+const NO_PLACE: &str = "CR 2: a load without a place";
+
 impl Oracle {
     fn new(c: &Chart) -> Self {
         let tri = triangulation(c);
@@ -134,14 +136,14 @@ impl Oracle {
         })
     }
 
-    /// Ok: a place inside; Err: 13, 14 or 15.
+    /// Ok: a place inside; Err: 13 or 14. Every load on the grid has a place or is outside (02, CR 2).
     fn place(&self, x: i64, y: i64) -> Result<PositionInTriangulation, u32> {
         if !on_grid(x, y) {
             return Err(13);
         }
         match self.tri.locate(Point2::new(x as f64, y as f64)) {
             PositionInTriangulation::OutsideOfConvexHull(_) => Err(14),
-            PositionInTriangulation::NoTriangulation => Err(15),
+            PositionInTriangulation::NoTriangulation => panic!("{NO_PLACE}"),
             p => Ok(p),
         }
     }
@@ -155,7 +157,7 @@ impl Oracle {
             PositionInTriangulation::OnEdge(e) => format!("edge {}", e.index()),
             PositionInTriangulation::OnFace(f) => format!("face {}", f.index()),
             PositionInTriangulation::OutsideOfConvexHull(e) => format!("outside {}", e.index()),
-            PositionInTriangulation::NoTriangulation => "refused 15".into(),
+            PositionInTriangulation::NoTriangulation => panic!("{NO_PLACE}"),
         }
     }
 

@@ -1,28 +1,51 @@
 #!/usr/bin/env python3
-"""Properties that the proofs may rest on, tested on every inside query of a suite's accepted charts:
+"""Properties that the proofs are about, tested on every query of a suite's accepted charts:
     props.py DIR
  tree      a face opened through h has q strictly right of h (or on h, the located edge) and strictly left of its other two;
  count     edges listed = faces opened + 2, each half-edge once; every one has its own face opened and its partner's not;
  ring      each listed edge ends where the next starts (the last one: where the first starts), counterclockwise about q;
  sibson    the faces opened are all the faces whose circle strictly holds q (CR 11);
  steps     the turns take 3 * opened steps in all;
- home      exactly one of vertex, open edge, strict face, outside (CR 2)."""
+ home      exactly one of vertex, open edge, strict face, outside (CR 2): of these loads, and of others, on charts that 6 to 10 let pass.
+           The others are every vertex, the lattice points of every edge next to its ends and its middle, the steps beside them, and places
+           on the lines of hull edges beyond their ends, on the grid or off it."""
 import os, sys
+from math import gcd
 
 sys.dont_write_bytecode = True  # nothing is left in the source tree
 from second import *
 
 
-def check(c, q, st):
-    homes = [('v', i) for i in range(len(c.v)) if c.at(i) == q]
+def home(c, q, st):
+    homes = [('vertex', i) for i in range(len(c.v)) if c.at(i) == q]
     for h in range(0, len(c.h), 2):
         a, b = c.frm(h), c.to(h)
         if side(a, b, q) == 0 and 0 < (q[0] - a[0]) * (b[0] - a[0]) + (q[1] - a[1]) * (b[1] - a[1]) < (b[0] - a[0]) ** 2 + (b[1] - a[1]) ** 2:
-            homes.append(('e', h))
-    homes += [('f', f) for f in range(1, len(c.f)) if all(side(c.frm(h), c.to(h), q) > 0 for h in c.edges_of(f))]
+            homes.append(('edge', h))
+    homes += [('face', f) for f in range(1, len(c.f)) if all(side(c.frm(h), c.to(h), q) > 0 for h in c.edges_of(f))]
     out = any(c.face(h) == 0 and side(c.frm(h), c.to(h), q) > 0 for h in range(len(c.h)))
-    assert len(homes) + out == 1, ('home', homes, out)
-    st['home'] = st.get('home', 0) + 1
+    assert len(homes) + out == 1, ('home', q, homes, out)
+    kind = 'outside' if out else homes[0][0]
+    if kind == 'edge': kind = 'hull edge' if 0 in (c.face(homes[0][1]), c.face(homes[0][1] ^ 1)) else 'inner edge'
+    st[kind] = st.get(kind, 0) + 1
+
+
+def rim_loads(c):
+    """Places at the rims of the three homes, seen from the chart alone."""
+    at = {c.at(i) for i in range(len(c.v))}
+    for h in range(0, len(c.h), 2):
+        a, b = c.frm(h), c.to(h)
+        g = gcd(b[0] - a[0], b[1] - a[1])
+        dx, dy = (b[0] - a[0]) // g, (b[1] - a[1]) // g
+        on = {1, g // 2, g - 1} | ({-1, g + 1, 2 * g, -3000} if 0 in (c.face(h), c.face(h ^ 1)) else set())
+        for k in on:
+            x, y = a[0] + k * dx, a[1] + k * dy
+            at |= {(x, y), (x + 1, y), (x - 1, y), (x, y + 1), (x, y - 1)}
+    return at
+
+
+def check(c, q, st):
+    home(c, q, st)
     kind, n = locate(c, q)
     if kind not in ('face', 'edge') or (kind == 'edge' and 0 in (c.face(n), c.face(n ^ 1))): return
     _, k, es = natural_edges(c, q)
@@ -60,10 +83,15 @@ if __name__ == '__main__':
     d = sys.argv[1]
     for name in sorted(os.listdir(d)):
         p = os.path.join(d, name)
-        if not os.path.exists(p + '/queries.txt'): continue
+        if not os.path.exists(p + '/chart.txt'): continue
         b = open(p + '/chart.txt', 'rb').read()
-        if refusal(b): continue
+        n = refusal(b)
+        if n not in (0, 11): continue
         c = parse(b)[1]
+        key = 'accepted' if n == 0 else 'met by 11 alone'
+        st[key] = st.get(key, 0) + 1
+        for q in rim_loads(c): home(c, q, st)
+        if n or not os.path.exists(p + '/queries.txt'): continue
         n = list(map(int, open(p + '/queries.txt').read().split()))
         for q in zip(n[::2], n[1::2]):
             if on_grid(q): check(c, q, st)

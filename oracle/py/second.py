@@ -189,14 +189,13 @@ def locate(c, q):
         if all(side(c.frm(h), c.to(h), q) > 0 for h in c.edges_of(f)): return 'face', f
     for h in range(len(c.h)):
         if c.face(h) == 0 and side(c.frm(h), c.to(h), q) > 0: return 'outside', h
-    return 'none', 0
+    raise AssertionError('CR 2: no place for %r' % (q,))
 
 
 def natural_edges(c, q):
     """('ok', opened, edges) or a refusal number."""
     kind, n = locate(c, q)
     if kind == 'outside': return 14
-    if kind == 'none': return 15
     if kind == 'vertex': return 'ok', 0, [c.v[n][3]]
     if kind == 'edge' and 0 in (c.face(n), c.face(n ^ 1)): return 'ok', 0, [n, n ^ 1]
     opened, out = set(), []
@@ -252,7 +251,6 @@ def two_points(c, h, q):
 def barycentric(c, q):
     kind, n = locate(c, q)
     if kind == 'outside': return 14
-    if kind == 'none': return 15
     if kind == 'vertex': return [(n, 1.0)]
     if kind == 'edge': return two_points(c, n, q)
     hs = c.edges_of(n)
@@ -404,8 +402,7 @@ def answers(b, queries, rooms=(), only=None):
         opened, w = ([w[0]], w[1]) if isinstance(w, tuple) else ([], w)
         return ' '.join(map(str, opened + [len(w)] + ['%d %s' % (v, bits(x)) for v, x in w]))
     def place(c, q):
-        kind, n = locate(c, q)
-        return 'refused 15' if kind == 'none' else '%s %d' % (kind, n)
+        return '%s %d' % locate(c, q)
     def edges(c, q):
         e = natural_edges(c, q)
         return '%d %d %s' % (e[1], len(e[2]), ' '.join(map(str, e[2]))) if isinstance(e, tuple) else 'refused %d' % e

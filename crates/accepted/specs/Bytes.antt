@@ -115,3 +115,16 @@ bytes-accepted s h = by-head (headOf s) refl h
     by-head : (d : Head) → headOf s ≡ d → refusalOf (afterHead d s) ≡ 0 → AcceptedBytes s
     by-head (Refused n) q z = absurd (head-refusal s n q z)
     by-head (Counts v e f) q z = by-load v e f q (loadOf v e f s) refl z
+
+-- the chart that every call takes from a file that it does not refuse
+same-accepted : (us vs : List ℤ) (ds es gs fs : List ℕ) → loaded us ds gs ≡ loaded vs es fs → Accepted (chartOf us ds gs) → Accepted (chartOf vs es fs)
+same-accepted us vs ds es gs fs e a =
+    let x : us ≡ vs = cc in
+    let y : ds ≡ es = cc in
+    let z : gs ≡ fs = cc in
+    rw (← x, ← y, ← z) a
+
+pub chart-accepted : (s : List ℕ) (vs : List ℤ) (es fs : List ℕ) → chartIn s ≡ loaded vs es fs → Accepted (chartOf vs es fs)
+chart-accepted s vs es fs q =
+    let a = bytes-accepted s (ap refusalOf q) in
+    same-accepted (a .vs) vs (a .es) es (a .fs) fs (sym (a .tables) ∙ q) (a .chart)

@@ -3,10 +3,10 @@ use mathlib.Core.Path.{_≡_, refl, sym, subst, ap, _∙_}
 use mathlib.Core.Logic.{_⊎_, inl, inr}
 use Prim.Native.Nat.{ℕ, _<_}
 use lib.Dec.{lit<}
-use lib.IntN.{ℤ, pos, negsuc, _+ℤ_, _-ℤ_, +ℤ-comm, +ℤ-negℤ-cancel}
-use Rattle.signs.specs.Signs.{below, above, sg, up, ze, _&_, _or_, ev, Is, Pos, Neg, Zero, Low, Off, fire, left, right, both, orR, eq-zero}
-use Rattle.signs.specs.Order.{neg-nil, pos-low, pos-sg, neg-sg, sign-of, pos-zero, nat-pos}
-use Rattle.signs.specs.Sum.{sum, sum-some}
+use lib.IntN.{ℤ, pos, negsuc, _+ℤ_, _-ℤ_, +ℤ-idl, +ℤ-comm, +ℤ-negℤ-cancel}
+use Rattle.signs.specs.Signs.{below, nil, above, sg, up, ze, _&_, _or_, ev, Is, Pos, Neg, Zero, Low, Off, fire, left, right, both, orR, eq-zero}
+use Rattle.signs.specs.Order.{neg-nil, pos-low, pos-sg, neg-sg, zero-sg, sign-of, pos-zero, nat-pos}
+use Rattle.signs.specs.Sum.{sum, sum-none, sum-some}
 use Rattle.geometry.specs.declared.Place.{Place}
 use Rattle.geometry.specs.Plane.{side}
 use Rattle.cells.specs.Points.{dots, ray}
@@ -24,6 +24,10 @@ use Rattle.home.specs.Crossing.{crossing}
 down-step : kap above below below ≡ negsuc 0
 unfolding kap ev
 down-step = refl
+
+along-step : kap above below nil ≡ pos 0
+unfolding kap ev
+along-step = refl
 
 module _ (c : Chart) (snd : Sound c) (q ρ : Place) (dif : Differ c snd q ρ) (low : (h : ℕ) → h < c .halfEdges → c .face h ≡ 0 → Low (Ch.sd c snd h q)) (off : (v : ℕ) → v < c .vertices → Off (ray ρ q (c .place v))) where
   abbrev A : ℕ → Place
@@ -60,9 +64,22 @@ module _ (c : Chart) (snd : Sound c) (q ρ : Place) (dif : Differ c snd q ρ) (l
   pub adds-held : (h : ℕ) → h < c .halfEdges → (c .face h ≡ 0 → ⊥) → Pos (tri h) → Is (up (sg (side (B h) (C h) q)) & up (sg (side (C h) (A h) q)) & up (sg (sd h)) or ze (sg (sd h)) & up (sg (side (B h) (C h) q)) & up (sg (side (C h) (A h) q)) or ze (sg (side (B h) (C h) q)) & up (sg (side (C h) (A h) q)) & up (sg (sd h)) or ze (sg (side (C h) (A h) q)) & up (sg (sd h)) & up (sg (side (B h) (C h) q)))
   adds-held h l i p = fire (left (right (right (wound-at h l i)))) (subst Pos (T.tri-om c snd q ρ h l i) p .is)
 
+  adds : (h : ℕ) → h < c .halfEdges → (c .face h ≡ 0 → ⊥) → T.Adds c snd q ρ h
+  adds h l i = T.adds-wound c snd q ρ h l i (wound-at h l i)
+
   -- two that add something are one
   pub one-adds : (i k : ℕ) → i < c .halfEdges → k < c .halfEdges → (c .face i ≡ 0 → ⊥) → (c .face k ≡ 0 → ⊥) → Pos (tri i) → Pos (tri k) → (k ≡ i) ⊎ ((k ≡ c .next i) ⊎ (k ≡ c .prev i))
-  one-adds = O.unique c snd q ρ dif low (λ h l i. T.adds-wound c snd q ρ h l i (wound-at h l i))
+  one-adds = O.unique c snd q ρ dif low adds
+
+  -- where q is on the line of the outer half-edge that goes down, none does
+  pub none-adds : (h : ℕ) → Down h → Zero (sd h) → (k : ℕ) → k < c .halfEdges → Pos (tri k) → ⊥
+  unfolding T.cr
+  none-adds h d z k l p =
+      let o : sum (T.outs c snd q ρ) (c .halfEdges) ≡ pos 0 =
+      O.outs-at c snd q ρ dif low h d ∙ O.outs-out c snd q ρ dif low h (d .outer) ∙ rw (pos-sg (d .from-up), neg-sg (d .to-down), zero-sg z) along-step in
+      let i : sum (T.ins c snd q ρ) (c .halfEdges) ≡ pos 0 =
+      sym (+ℤ-idl (sum (T.ins c snd q ρ) (c .halfEdges))) ∙ ap (λ (x : ℤ). x +ℤ sum (T.ins c snd q ρ) (c .halfEdges)) (sym o) ∙ T.balanced c snd q ρ in
+      pos-zero p (sum-none tri (c .halfEdges) (O.tri-high c snd q ρ dif low adds) (T.tri-sum c snd q ρ ∙ ap (λ (x : ℤ). x +ℤ x +ℤ x) i) k l)
 
   -- ---- where q is on no open edge of the rim, one does
   module _ (clear : (h : ℕ) → h < c .halfEdges → c .face h ≡ 0 → Zero (sd h) → Neg (dots (A h) (B h) q) → ⊥) where

@@ -26,7 +26,8 @@ use Rattle.sound.specs.Tests.{above-zero}
 use Rattle.sound.specs.Sound.{Sound}
 use Rattle.nearby.specs.Chart as Ch
 use Rattle.nearby.specs.Rim as R
-use Rattle.nearby.specs.Line.{Differ}
+use Rattle.nearby.specs.Line.{Differ, at-most-one}
+use Rattle.nearby.specs.Once as O
 use Rattle.nearby.specs.Vertex.{no-vertex}
 use Rattle.locate.specs.Location.{atVertex, onEdge}
 use Rattle.home.specs.Facts.{sideAt, dotsAt, AtVertex, OnEdge, InFace, vertex-to, vertex-from, edge-to, edge-from}
@@ -167,6 +168,16 @@ module _ (c : Chart) (snd : Sound c) (q : Place) where
   held-strict : (k : ℕ) → Held k → (h : ℕ) → h < c .halfEdges → c .face h ≡ 0 → Neg (sd h)
   held-strict k d h l o = R.inside c snd k h q (d .there) l (d .inner) o (d .first) (d .second) (d .third)
 
+  open-low : (k : ℕ) → Open k → Inside
+  open-low k e h l o = pick (ℕ-discrete (c .face k) 0)
+    where
+      by : (k : ℕ) → Open k → (c .face k ≡ 0 → ⊥) → Low (sd h)
+      by k u i = R.beside c snd k h q (u .there) l i o (u .on) (u .between)
+
+      pick : Dec (c .face k ≡ 0) → Low (sd h)
+      pick (no i) = by k e i
+      pick (yes z) = by (partner k) (open-twin k e) (R.inner-side c snd k (e .there) z)
+
   open-strict : (k : ℕ) → Open k → (c .face k ≡ 0 → ⊥) → (c .face (partner k) ≡ 0 → ⊥) → (h : ℕ) → h < c .halfEdges → c .face h ≡ 0 → Neg (sd h)
   open-strict k e i j h l o = R.amid c snd k h q (e .there) l i j o (e .on) (e .between)
 
@@ -301,6 +312,59 @@ module _ (c : Chart) (snd : Sound c) (q : Place) where
         pick t p u p' (inr (inl w)) = absurd (pos-zero (subst (λ (x : ℕ). Pos (sd x)) (sym w) (p .second)) (p' .open-at .on))
         pick t p u p' (inr (inr w)) = absurd (pos-zero (subst (λ (x : ℕ). Pos (sd x)) (sym w) (p .third)) (p' .open-at .on))
 
+    -- two outer half-edges: which way they cross the ray's line is seen from their inner sides
+    rim-rim : (h k : ℕ) → Open h → Open k → c .face h ≡ 0 → c .face k ≡ 0 → h ≡ k
+    rim-rim h k e e' o o' = pick (crosses h e o) (crosses k e' o')
+      where
+        crosses : (h : ℕ) → Open h → c .face h ≡ 0 → Pos (tri (partner h)) ⊎ O.Down c snd q ρ dif low h
+        crosses h e o = choose (either (left-ray ρ q (A t) (B t) (C t) (u .on) (subst Pos (Ch.side-next c snd t q tl i) (s .0)) (subst Pos (Ch.side-prev c snd t q tl) (s .1)) (off (c .origin t) (snd .range .origins t tl))))
+          where
+            l : h < c .halfEdges
+            l = e .there
+
+            t : ℕ
+            t = partner h
+
+            u : Open t
+            u = open-twin h e
+
+            tl : t < c .halfEdges
+            tl = u .there
+
+            i : c .face t ≡ 0 → ⊥
+            i = R.inner-side c snd h l o
+
+            s : Pos (sd (c .next t)) × Pos (sd (c .prev t))
+            s = R.open-sides c snd t q tl i (u .on) (u .between)
+
+            choose : Is (up (sg (ray ρ q (A t))) & dn (sg (ray ρ q (B t)))) ⊎ Is (dn (sg (ray ρ q (A t))) & up (sg (ray ρ q (B t)))) → Pos (tri t) ⊎ O.Down c snd q ρ dif low h
+            choose (inl r) = inl (N.edge-adds c snd q ρ dif low off t tl i (u .on) (s .0) (s .1) (record { is = left r }))
+            choose (inr r) =
+                inr
+                (record {
+                  there = l;
+                  outer = o;
+                  from-up = subst (λ (p : Place). Pos (ray ρ q p)) (Ch.twin-B c snd h l) (record { is = right r });
+                  to-down = subst (λ (p : Place). Neg (ray ρ q p)) (Ch.twin-A c snd h l) (record { is = left r });
+                })
+
+        inner : (h : ℕ) → Open h → c .face h ≡ 0 → c .face (partner h) ≡ 0 → ⊥
+        inner h e o = R.inner-side c snd h (e .there) o
+
+        -- of one face, and neither is the next of the other
+        one : Pos (tri (partner h)) → Pos (tri (partner k)) → (partner k ≡ partner h) ⊎ ((partner k ≡ c .next (partner h)) ⊎ (partner k ≡ c .prev (partner h))) → h ≡ k
+        one p p' (inl w) = sym (sym (partner-twice k) ∙ ap partner w ∙ partner-twice h)
+        one p p' (inr (inl w)) =
+            absurd (pos-zero (subst (λ (x : ℕ). Pos (sd x)) (sym w) (R.open-sides c snd (partner h) q (open-twin h e .there) (inner h e o) (open-twin h e .on) (open-twin h e .between) .0)) (open-twin k e' .on))
+        one p p' (inr (inr w)) =
+            absurd (pos-zero (subst (λ (x : ℕ). Pos (sd x)) (sym w) (R.open-sides c snd (partner h) q (open-twin h e .there) (inner h e o) (open-twin h e .on) (open-twin h e .between) .1)) (open-twin k e' .on))
+
+        pick : Pos (tri (partner h)) ⊎ O.Down c snd q ρ dif low h → Pos (tri (partner k)) ⊎ O.Down c snd q ρ dif low k → h ≡ k
+        pick (inl p) (inl p') = one p p' (one-adds (partner h) (partner k) (open-twin h e .there) (open-twin k e' .there) (inner h e o) (inner k e' o') p p')
+        pick (inl p) (inr d') = absurd (N.none-adds c snd q ρ dif low off k d' (e' .on) (partner h) (open-twin h e .there) p)
+        pick (inr d) (inl p') = absurd (N.none-adds c snd q ρ dif low off h d (e .on) (partner k) (open-twin k e' .there) p')
+        pick (inr d) (inr d') = at-most-one c snd q ρ dif h k (d .there) (d' .there) o o' (d .from-up) (d .to-down) (d' .from-up) (d' .to-down)
+
     -- ---- and one at least, where it is on no open edge of the rim
     module _ (clear : (h : ℕ) → h < c .halfEdges → c .face h ≡ 0 → Zero (sd h) → Neg (dots (A h) (B h) q) → ⊥) where
       prev-prev : (h : ℕ) → h < c .halfEdges → (c .face h ≡ 0 → ⊥) → c .prev (c .prev h) ≡ c .next h
@@ -397,11 +461,20 @@ module _ (c : Chart) (snd : Sound c) (q : Place) where
       ∙ held-held (λ h l o. neg-low (held-strict (c .adjacent f) d h l o)) (λ v e. vertex-held v (c .adjacent f) e d) (c .adjacent f) (c .adjacent g) d (held-of g b)
       ∙ snd .adjacent-face g (b .there)
 
-  -- of an edge with two inner sides
-  pub one-edge : (h k : ℕ) → OnEdge c q h → OnEdge c q k → (c .face h ≡ 0 → ⊥) → (c .face (partner h) ≡ 0 → ⊥) → (k ≡ h) ⊎ (k ≡ partner h)
-  one-edge h k a b i j =
+  -- of an edge with two inner sides, and of any other
+  inner-edge : (h k : ℕ) → Open h → Open k → (c .face h ≡ 0 → ⊥) → (c .face (partner h) ≡ 0 → ⊥) → (k ≡ h) ⊎ (k ≡ partner h)
+  inner-edge h k e e' i j =
       open-open (λ g l o. neg-low (strict g l o)) (λ v w. vertex-edge' v h w e) h k e i j e'
       (λ o. neg-zero (strict k (e' .there) o) (e' .on)) (λ o. neg-zero (strict (partner k) (partner-in (snd .range) k (e' .there)) o) (open-twin k e' .on))
+    where
+      strict : (g : ℕ) → g < c .halfEdges → c .face g ≡ 0 → Neg (sd g)
+      strict = open-strict h e i j
+
+  rim-edge : (h k : ℕ) → Open h → Open k → c .face h ≡ 0 → c .face k ≡ 0 → h ≡ k
+  rim-edge h k e e' o o' = rim-rim (open-low h e) (λ v w. vertex-edge' v h w e) h k e e' o o'
+
+  pub one-edge : (h k : ℕ) → OnEdge c q h → OnEdge c q k → (k ≡ h) ⊎ (k ≡ partner h)
+  one-edge h k a b = sides (ℕ-discrete (c .face h) 0) (ℕ-discrete (c .face (partner h)) 0)
     where
       e : Open h
       e = open-of h a
@@ -409,8 +482,28 @@ module _ (c : Chart) (snd : Sound c) (q : Place) where
       e' : Open k
       e' = open-of k b
 
-      strict : (g : ℕ) → g < c .halfEdges → c .face g ≡ 0 → Neg (sd g)
-      strict = open-strict h e i j
+      turned : (h ≡ k) ⊎ (h ≡ partner k) → (k ≡ h) ⊎ (k ≡ partner h)
+      turned (inl w) = inl (sym w)
+      turned (inr w) = inr (sym (ap partner w ∙ partner-twice k))
+
+      -- h and k by their outer half-edges
+      rim : (g : ℕ) → (g ≡ h) ⊎ (g ≡ partner h) → Open g → c .face g ≡ 0 → Dec (c .face k ≡ 0) → Dec (c .face (partner k) ≡ 0) → (k ≡ h) ⊎ (k ≡ partner h)
+      rim g w u o (yes z) y = same w (rim-edge g k u e' o z)
+        where
+          same : (g ≡ h) ⊎ (g ≡ partner h) → g ≡ k → (k ≡ h) ⊎ (k ≡ partner h)
+          same (inl w) d = inl (sym d ∙ w)
+          same (inr w) d = inr (sym d ∙ w)
+      rim g w u o (no i) (yes z) = same w (rim-edge g (partner k) u (open-twin k e') o z)
+        where
+          same : (g ≡ h) ⊎ (g ≡ partner h) → g ≡ partner k → (k ≡ h) ⊎ (k ≡ partner h)
+          same (inl w) d = inr (sym (ap partner (sym w ∙ d) ∙ partner-twice k))
+          same (inr w) d = inl (sym (partner-twice k) ∙ ap partner (sym d ∙ w) ∙ partner-twice h)
+      rim g w u o (no i) (no j) = turned (inner-edge k h e' e i j)
+
+      sides : Dec (c .face h ≡ 0) → Dec (c .face (partner h) ≡ 0) → (k ≡ h) ⊎ (k ≡ partner h)
+      sides (yes o) y = rim h (inl refl) e o (ℕ-discrete (c .face k) 0) (ℕ-discrete (c .face (partner k)) 0)
+      sides (no i) (yes o) = rim (partner h) (inr refl) (open-twin h e) o (ℕ-discrete (c .face k) 0) (ℕ-discrete (c .face (partner k)) 0)
+      sides (no i) (no j) = inner-edge h k e e' i j
 
   -- ---- and what has a home is strictly left of no outer half-edge
   pub vertex-inside : (v h : ℕ) → AtVertex c q v → h < c .halfEdges → c .face h ≡ 0 → Low (sideAt c q h)
@@ -418,14 +511,7 @@ module _ (c : Chart) (snd : Sound c) (q : Place) where
       subst (λ (p : Place). Low (sideAt c p h)) (place-eq (c .place v) q (a .x-is) (a .y-is)) (not-pos (snd .hull h v (l, o) (a .there)))
 
   pub edge-inside : (k h : ℕ) → OnEdge c q k → h < c .halfEdges → c .face h ≡ 0 → Low (sideAt c q h)
-  edge-inside k h e l o = subst Low (sd-side h l) (pick (ℕ-discrete (c .face k) 0) (open-of k e))
-    where
-      by : (k : ℕ) → Open k → (c .face k ≡ 0 → ⊥) → Low (sd h)
-      by k u i = R.beside c snd k h q (u .there) l i o (u .on) (u .between)
-
-      pick : Dec (c .face k ≡ 0) → Open k → Low (sd h)
-      pick (no i) u = by k u i
-      pick (yes z) u = by (partner k) (open-twin k u) (R.inner-side c snd k (u .there) z)
+  edge-inside k h e l o = subst Low (sd-side h l) (open-low k (open-of k e) h l o)
 
   pub face-inside : (f h : ℕ) → InFace c q f → h < c .halfEdges → c .face h ≡ 0 → Low (sideAt c q h)
   face-inside f h e l o = subst Low (sd-side h l) (neg-low (held-strict (c .adjacent f) (held-of f e) h l o))

@@ -46,10 +46,10 @@ pub record Housed (c : Chart) (q : Place) : Type 0 where
   pub vertex-edge : (v h : ℕ) → v < c .vertices → h < c .halfEdges → atVertex c q v ≡ true → onEdge c q h ≡ true → ⊥
   pub vertex-face : (v f : ℕ) → v < c .vertices → f < c .faces → atVertex c q v ≡ true → inFace c q f ≡ true → ⊥
   pub edge-face : (h f : ℕ) → h < c .halfEdges → f < c .faces → onEdge c q h ≡ true → inFace c q f ≡ true → ⊥
-  -- the face is the only one, and so are the vertex and, beyond the request, an edge with two inner sides
+  -- the face is the only one, and, beyond the request, so are the vertex and the edge
   pub one-face : (f g : ℕ) → f < c .faces → g < c .faces → inFace c q f ≡ true → inFace c q g ≡ true → f ≡ g
   pub one-vertex : (v w : ℕ) → v < c .vertices → w < c .vertices → atVertex c q v ≡ true → atVertex c q w ≡ true → v ≡ w
-  pub one-edge : (h k : ℕ) → h < c .halfEdges → k < c .halfEdges → onEdge c q h ≡ true → onEdge c q k ≡ true → (c .face h ≡ 0 → ⊥) → (c .face (partner h) ≡ 0 → ⊥) → (k ≡ h) ⊎ (k ≡ partner h)
+  pub one-edge : (h k : ℕ) → h < c .halfEdges → k < c .halfEdges → onEdge c q h ≡ true → onEdge c q k ≡ true → (k ≡ h) ⊎ (k ≡ partner h)
 
 -- the only number that passes is the one found
 hit : (p : ℕ → Bool) (n i : ℕ) → i < n → p i ≡ true → ((j : ℕ) → j < n → p j ≡ true → j ≡ i) → first p n ≡ i
@@ -80,7 +80,7 @@ module _ (c : Chart) (q : Place) (snd : Sound c) where
         edge-face = λ h f l m a b. Hm.edge-face c snd q h f (edge-to c q h l a) (face-to c q f m b);
         one-face = λ f g l m a b. Hm.one-face c snd q f g (face-to c q f l a) (face-to c q g m b);
         one-vertex = λ v w l m a b. Hm.one-vertex c snd q v w (vertex-to c q v l a) (vertex-to c q w m b);
-        one-edge = λ h k l m a b i j. Hm.one-edge c snd q h k (edge-to c q h l a) (edge-to c q k m b) i j;
+        one-edge = λ h k l m a b. Hm.one-edge c snd q h k (edge-to c q h l a) (edge-to c q k m b);
       }
     where
       choose : ((v : ℕ) × AtVertex c q v) ⊎ (((h : ℕ) × F.OnEdge c q h) ⊎ ((f : ℕ) × InFace c q f)) → OnSomeVertex c q ⊎ (OnSomeEdge c q ⊎ InSomeFace c q)

@@ -138,7 +138,7 @@ module _ (c : Chart) (snd : Sound c) (q ρ : Place) (dif : Differ c snd q ρ) (l
 
   -- ---- so of the faces only one adds 1
   module _ (adds : (h : ℕ) → h < c .halfEdges → (c .face h ≡ 0 → ⊥) → T.Adds c snd q ρ h) where
-    tri-high : (h : ℕ) → h < c .halfEdges → High (tri h)
+    pub tri-high : (h : ℕ) → h < c .halfEdges → High (tri h)
     tri-high h l = pick (ℕ-discrete (c .face h) 0)
       where
         pick : Dec (c .face h ≡ 0) → High (tri h)

@@ -5,5 +5,6 @@ pub mod Links
 pub mod Calls
 pub mod Unreached
 pub mod Loads
+pub mod Homes
 pub mod Ropes
 pub mod Saved

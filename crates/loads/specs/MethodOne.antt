@@ -14,7 +14,9 @@ use Rattle.chart.specs.Tables.{unsigned}
 use Rattle.chart.specs.Chart.{Chart, chartOf}
 use Rattle.checks.specs.Checks.{Loaded}
 use Rattle.sound.specs.Sound.{Sound}
-use Rattle.accepted.specs.Bytes.{AcceptedBytes}
+use Rattle.checks.specs.Checks.Loaded.{loaded}
+use Rattle.reading.specs.Reading.{chartIn}
+use Rattle.accepted.specs.Bytes.{chart-accepted}
 use Rattle.locate.specs.declared.Location.{Location}
 use Rattle.locate.specs.declared.Location.the-variants.{OnVertex, OnEdge, OnFace, OutsideOfConvexHull}
 use Rattle.locate.specs.Location.{leftOfOuter, locationOf}
@@ -107,9 +109,9 @@ with-one total count (Splice i) h = h
 with-one total count (Refused k) h = h
 
 -- ---- the ruling
-module _ (chart : List ℕ) (a : AcceptedBytes chart) (s : ℕ) (e : Entry) (one : ByMethodOne e) where
+module _ (chart : List ℕ) (vs : List ℤ) (es fs : List ℕ) (read : chartIn chart ≡ loaded vs es fs) (s : ℕ) (e : Entry) (one : ByMethodOne e) where
   abbrev c : Chart
-  c = chartOf (a .vs) (a .es) (a .fs)
+  c = chartOf vs es fs
 
   abbrev q : Place
   q = placeIn e
@@ -118,10 +120,10 @@ module _ (chart : List ℕ) (a : AcceptedBytes chart) (s : ℕ) (e : Entry) (one
   i = unsigned (e .section)
 
   snd : Sound c
-  snd = a .chart .sound
+  snd = chart-accepted chart vs es fs read .sound
 
   said : queries chart (e .method) q ≡ valueOn 1 c q
-  said = ap (λ (l : Loaded). valueIn l (methodOf (e .method)) q) (a .tables) ∙ ap (λ (m : ℤ). valueOn (methodOf m) c q) (one .1)
+  said = ap (λ (l : Loaded). valueIn l (methodOf (e .method)) q) read ∙ ap (λ (m : ℤ). valueOn (methodOf m) c q) (one .1)
 
   bend : isSplice (e .kind) ≡ false
   bend = ap isSplice (one .0)
@@ -163,8 +165,8 @@ module _ (chart : List ℕ) (a : AcceptedBytes chart) (s : ℕ) (e : Entry) (one
       first true u = subst BendOrOneOf (sym (unknown-12 u)) (inl refl)
       first false u = second u (offGrid q) refl
 
-  pub method-one : MethodOne chart c s e
-  method-one =
+  settled : MethodOne chart c s e
+  settled =
       record {
         by-12 = unknown-12;
         by-13 = off-13;
@@ -172,3 +174,7 @@ module _ (chart : List ℕ) (a : AcceptedBytes chart) (s : ℕ) (e : Entry) (one
         valued = inside;
         no-other = λ total count. with-one total count (entryRuling queries s chart e) ruling-one;
       }
+
+-- of every accepted file, and every section count and bend by method 1
+pub method-one : (chart : List ℕ) (vs : List ℤ) (es fs : List ℕ) → chartIn chart ≡ loaded vs es fs → (s : ℕ) (e : Entry) → ByMethodOne e → MethodOne chart (chartOf vs es fs) s e
+method-one = settled

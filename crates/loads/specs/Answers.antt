@@ -19,7 +19,7 @@ use Rattle.entries.specs.Entry.{EntryWidth, entryAt, entriesFrom, entriesOf}
 use Rattle.entries.specs.Ruling.{RefusedEntry, answerOf}
 use Rattle.accounts.specs.Batch.{bookChange, bookVerdict, answersFrom, overlay, badSlices, batchRefusal, Outcome, outcome, byRefusal, batchOf}
 use Rattle.estivolh.specs.Account.{queries}
-use Rattle.method_one.specs.MethodOne.{ByMethodOne, OneOf, BendOrOneOf, method-one}
+use Rattle.loads.specs.MethodOne.{ByMethodOne, OneOf, BendOrOneOf, method-one}
 
 -- accepted, or refused with one of the five
 abbrev pub AcceptedOrOneOf : ℕ → Type 0
@@ -69,4 +69,4 @@ answers-one b chart es lent r left made z k l one =
     let one' : ByMethodOne (entryAt es (0 + k * EntryWidth)) = subst (λ (i : ℕ). ByMethodOne (entryAt es i)) (sym j) one in
     subst AcceptedOrOneOf (sym (ap (λ (s : List ℕ). getD s k 0) (w .1) ∙ List·getD-append given _ 0 k m))
     (answer-at chart es AcceptedOrOneOf n 0 k b l
-    (λ d. by-ruling (bookVerdict queries chart d (entryAt es (0 + k * EntryWidth))) (method-one chart a (d .sections) (entryAt es (0 + k * EntryWidth)) one' .no-other (totalWear d) (countOf d))))
+    (λ d. by-ruling (bookVerdict queries chart d (entryAt es (0 + k * EntryWidth))) (method-one chart (a .vs) (a .es) (a .fs) (a .tables) (d .sections) (entryAt es (0 + k * EntryWidth)) one' .no-other (totalWear d) (countOf d))))

@@ -1,0 +1,1 @@
+// What holds of every load on an accepted chart: everything is in specs/.

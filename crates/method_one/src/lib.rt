@@ -1,1 +1,0 @@
-// Whether a bend by method 1 is accepted: everything is in specs/.
