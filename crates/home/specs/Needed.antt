@@ -3,22 +3,19 @@
 use mathlib.Core.Path.{_≡_, refl}
 use mathlib.Core.List.{[], _∷_}
 use mathlib.Core.Bool.{Bool, true, false, _&&_}
-use Prim.Native.Nat.{ℕ, _%_, _<_}
+use Prim.Native.Nat.{ℕ, _<_}
 use native.Mathlib.Omega.{arith}
 use lib.Dec.{ltb, lit<}
 use lib.IntN.{pos}
 use lib.Signed.{ltZ}
 use Rattle.whole.specs.First.{from, some}
 use Rattle.geometry.specs.declared.Place.{Place}
-use Rattle.geometry.specs.Plane.{offGrid, crossOf, dotOf, side, onOpenSegment}
-use Rattle.chart.specs.Tables.{rows}
+use Rattle.geometry.specs.Plane.{offGrid, crossOf, dotOf, norm2Of, side, lifted, circle, onOpenSegment}
 use Rattle.chart.specs.Chart.{Chart, InRange, corner₀, corner₁, corner₂}
 use Rattle.ranges.specs.Ranges.{notBelow, badVertex, badHalfEdge, badFace, outOfRange}
-use Rattle.ranges.specs.Passed.{in-range}
 use Rattle.links.specs.Links.{linked, unlinked, strayOut, strayAdjacent, linksBroken}
-use Rattle.delaunay.specs.Delaunay.{sharesPlace, notLeft, overhung}
 use Rattle.locate.specs.Location.{atVertex, onEdge, inFace}
-use Rattle.nearby.specs.Needed.{Tables, chart, sheets, copies, Seven, Eight, Nine, Ten}
+use Rattle.nearby.specs.Needed.{Tables, chart, sheets, copies, Row, sheets-row, copies-row, lone-row, ranged, Seven, Eight, Nine, Ten}
 use Rattle.home.specs.Located.{leftOfRim, InsideRim, Housed}
 
 -- 9: triangle A and a flat face below it, whose third corner (5, 0) is on the open edge between the other two
@@ -56,49 +53,37 @@ NoneRight c = some (turnsRight c) (c .faces) ≡ false
 abbrev pub Homed : Chart → Type 0
 Homed c = (q : Place) → InsideRim c q → Housed c q
 
--- what 6 to 10 say of a chart, and that a load is inside its rim
-record Row (t : Tables) (q : Place) (seven eight nine ten : Bool) : Type 0 where
-  range : outOfRange (t .vs) (t .es) (t .fs) ≡ false
-  even : rows (t .es) % 2 ≡ 0
-  links : linksBroken (chart t) ≡ seven
-  places : some (sharesPlace (chart t)) (chart t .vertices) ≡ eight
-  turns : some (notLeft (chart t)) (chart t .faces) ≡ nine
-  rim : some (overhung (chart t)) (chart t .halfEdges) ≡ ten
-  inside : leftOfRim (chart t) q ≡ false
+flat-row : Row flat false false true false true true
+unfolding flat from offGrid crossOf norm2Of side lifted circle notBelow badVertex badHalfEdge badFace outOfRange linked linksBroken
+flat-row = record { range = refl; even = refl; links = refl; places = refl; turns = refl; rim = refl; edges = refl; circles = refl }
 
--- it is strictly inside faces 1 and 2
+nested-row : Row nested false false false true false true
+unfolding nested from offGrid crossOf norm2Of side lifted circle notBelow badVertex badHalfEdge badFace outOfRange linked linksBroken
+nested-row = record { range = refl; even = refl; links = refl; places = refl; turns = refl; rim = refl; edges = refl; circles = refl }
+
+-- a load inside the rim and strictly inside faces 1 and 2
 record Twice (t : Tables) (q : Place) : Type 0 where
+  inside : leftOfRim (chart t) q ≡ false
   some-faces : 2 < chart t .faces
   first : inFace (chart t) q 1 ≡ true
   second : inFace (chart t) q 2 ≡ true
 
-sheets-row : Row sheets (place 4 1) true false false false
-unfolding sheets from offGrid crossOf side notBelow badVertex badHalfEdge badFace outOfRange linked linksBroken
-sheets-row = record { range = refl; even = refl; links = refl; places = refl; turns = refl; rim = refl; inside = refl }
-
 sheets-twice : Twice sheets (place 4 1)
-unfolding sheets crossOf side
-sheets-twice = record { some-faces = lit< tt; first = refl; second = refl }
-
-sheets-linked : AllButLone (chart sheets)
-unfolding sheets from linked
-sheets-linked = (refl, refl, refl)
-
-copies-row : Row copies (place 4 1) false true false false
-unfolding copies from offGrid crossOf side notBelow badVertex badHalfEdge badFace outOfRange linked linksBroken
-copies-row = record { range = refl; even = refl; links = refl; places = refl; turns = refl; rim = refl; inside = refl }
+unfolding sheets from crossOf side
+sheets-twice = record { inside = refl; some-faces = lit< tt; first = refl; second = refl }
 
 copies-twice : Twice copies (place 4 1)
-unfolding copies crossOf side
-copies-twice = record { some-faces = lit< tt; first = refl; second = refl }
+unfolding copies from crossOf side
+copies-twice = record { inside = refl; some-faces = lit< tt; first = refl; second = refl }
 
-flat-row : Row flat (place 5 0) false false true false
-unfolding flat from offGrid crossOf side notBelow badVertex badHalfEdge badFace outOfRange linked linksBroken
-flat-row = record { range = refl; even = refl; links = refl; places = refl; turns = refl; rim = refl; inside = refl }
+nested-twice : Twice nested (place 3 3)
+unfolding nested from crossOf side
+nested-twice = record { inside = refl; some-faces = lit< tt; first = refl; second = refl }
 
--- it is on vertex 3 and on the open edge of half-edge 0
+-- one inside the rim, on vertex 3 and on the open edge of half-edge 0, where no face turns right
 record Flat : Type 0 where
   none-right : NoneRight (chart flat)
+  inside : leftOfRim (chart flat) (place 5 0) ≡ false
   vertex : atVertex (chart flat) (place 5 0) 3 ≡ true
   edge : onEdge (chart flat) (place 5 0) 0 ≡ true
   vertices : 3 < chart flat .vertices
@@ -106,24 +91,13 @@ record Flat : Type 0 where
 
 flat-rows : Flat
 unfolding flat from crossOf dotOf side onOpenSegment
-flat-rows = record { none-right = refl; vertex = refl; edge = refl; vertices = lit< tt; halfEdges = lit< tt }
-
-nested-row : Row nested (place 3 3) false false false true
-unfolding nested from offGrid crossOf side notBelow badVertex badHalfEdge badFace outOfRange linked linksBroken
-nested-row = record { range = refl; even = refl; links = refl; places = refl; turns = refl; rim = refl; inside = refl }
-
-nested-twice : Twice nested (place 3 3)
-unfolding nested crossOf side
-nested-twice = record { some-faces = lit< tt; first = refl; second = refl }
-
-ranged : {t : Tables} {q : Place} {a b d e : Bool} → Row t q a b d e → InRange (chart t)
-ranged {t} r = in-range (t .vs) (t .es) (t .fs) (r .range) (r .even)
+flat-rows = record { none-right = refl; inside = refl; vertex = refl; edge = refl; vertices = lit< tt; halfEdges = lit< tt }
 
 -- a load in two faces has no one home
-two-faces : (t : Tables) (q : Place) {a b d e : Bool} → Row t q a b d e → Twice t q → Homed (chart t) → ⊥
-two-faces t q r w h =
+two-faces : (t : Tables) (q : Place) → Twice t q → Homed (chart t) → ⊥
+two-faces t q w h =
     let l : 2 < chart t .faces = w .some-faces in
-    let z : _≡_ {A = ℕ} 1 2 = h q (r .inside) .one-face 1 2 (omega arith) l (w .first) (w .second) in
+    let z : _≡_ {A = ℕ} 1 2 = h q (w .inside) .one-face 1 2 (omega arith) l (w .first) (w .second) in
     omega arith
 
 pub record Needed : Type 0 where
@@ -135,10 +109,10 @@ pub record Needed : Type 0 where
 pub needed : Needed
 needed =
     record {
-      seven = λ f. two-faces sheets (place 4 1) sheets-row sheets-twice (f (chart sheets) (ranged sheets-row) sheets-linked (sheets-row .places) (sheets-row .turns) (sheets-row .rim));
-      eight = λ f. two-faces copies (place 4 1) copies-row copies-twice (f (chart copies) (ranged copies-row) (copies-row .links) (copies-row .turns) (copies-row .rim));
+      seven = λ f. two-faces sheets (place 4 1) sheets-twice (f (chart sheets) (ranged sheets-row) (lone-row .linked-each, lone-row .out-each, lone-row .adjacent-each) (sheets-row .places) (sheets-row .turns) (sheets-row .rim));
+      eight = λ f. two-faces copies (place 4 1) copies-twice (f (chart copies) (ranged copies-row) (copies-row .links) (copies-row .turns) (copies-row .rim));
       nine = λ f.
-          f (chart flat) (ranged flat-row) (flat-row .links) (flat-row .places) (flat-rows .none-right) (flat-row .rim) (place 5 0) (flat-row .inside)
+          f (chart flat) (ranged flat-row) (flat-row .links) (flat-row .places) (flat-rows .none-right) (flat-row .rim) (place 5 0) (flat-rows .inside)
           .vertex-edge 3 0 (flat-rows .vertices) (flat-rows .halfEdges) (flat-rows .vertex) (flat-rows .edge);
-      ten = λ f. two-faces nested (place 3 3) nested-row nested-twice (f (chart nested) (ranged nested-row) (nested-row .links) (nested-row .places) (nested-row .turns));
+      ten = λ f. two-faces nested (place 3 3) nested-twice (f (chart nested) (ranged nested-row) (nested-row .links) (nested-row .places) (nested-row .turns));
     }

@@ -5,6 +5,7 @@ use mathlib.Core.Logic.{_⊎_, inl, inr}
 use mathlib.Core.Bool.{Bool, true, false, cond, false≢true}
 use mathlib.Core.List.{List}
 use Prim.Native.Nat.{ℕ, _≤_}
+use native.Mathlib.Omega.{arith}
 use lib.IntN.{ℤ, pos}
 use lib.Ieee.{Float}
 use Rattle.whole.specs.First.{none-at}
@@ -43,6 +44,14 @@ ByMethodOne e = (e .kind ≡ pos 1) × (e .method ≡ pos 1)
 -- the field checks, 14, 16 and 17
 abbrev pub OneOf : ℕ → Type 0
 OneOf k = (k ≡ 12) ⊎ ((k ≡ 13) ⊎ ((k ≡ 14) ⊎ ((k ≡ 16) ⊎ (k ≡ 17))))
+
+-- 15 is none of them
+pub not-fifteen : OneOf 15 → ⊥
+not-fifteen (inl e) = omega arith
+not-fifteen (inr (inl e)) = omega arith
+not-fifteen (inr (inr (inl e))) = omega arith
+not-fifteen (inr (inr (inr (inl e)))) = omega arith
+not-fifteen (inr (inr (inr (inr e)))) = omega arith
 
 -- a bend with its charge, or refused with one of them
 abbrev pub BendOrOneOf : Ruling → Type 0

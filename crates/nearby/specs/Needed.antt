@@ -79,21 +79,21 @@ square =
     }
 
 -- what 6 to 10 say of a chart, and whether an edge of it is pressed and a face crowded
-record Row (t : Tables) (seven eight nine ten edge face : Bool) : Type 0 where
-  range : outOfRange (t .vs) (t .es) (t .fs) ≡ false
-  even : rows (t .es) % 2 ≡ 0
-  links : linksBroken (chart t) ≡ seven
-  places : some (sharesPlace (chart t)) (chart t .vertices) ≡ eight
-  turns : some (notLeft (chart t)) (chart t .faces) ≡ nine
-  rim : some (overhung (chart t)) (chart t .halfEdges) ≡ ten
-  edges : some (pressed (chart t)) (chart t .halfEdges / 2) ≡ edge
-  circles : some (crowded (chart t)) (chart t .faces) ≡ face
+pub record Row (t : Tables) (seven eight nine ten edge face : Bool) : Type 0 where
+  pub range : outOfRange (t .vs) (t .es) (t .fs) ≡ false
+  pub even : rows (t .es) % 2 ≡ 0
+  pub links : linksBroken (chart t) ≡ seven
+  pub places : some (sharesPlace (chart t)) (chart t .vertices) ≡ eight
+  pub turns : some (notLeft (chart t)) (chart t .faces) ≡ nine
+  pub rim : some (overhung (chart t)) (chart t .halfEdges) ≡ ten
+  pub edges : some (pressed (chart t)) (chart t .halfEdges / 2) ≡ edge
+  pub circles : some (crowded (chart t)) (chart t .faces) ≡ face
 
-sheets-row : Row sheets true false false false false true
+pub sheets-row : Row sheets true false false false false true
 unfolding sheets from offGrid crossOf norm2Of side lifted circle notBelow badVertex badHalfEdge badFace outOfRange linked linksBroken
 sheets-row = record { range = refl; even = refl; links = refl; places = refl; turns = refl; rim = refl; edges = refl; circles = refl }
 
-copies-row : Row copies false true false false false true
+pub copies-row : Row copies false true false false false true
 unfolding copies from offGrid crossOf norm2Of side lifted circle notBelow badVertex badHalfEdge badFace outOfRange linked linksBroken
 copies-row = record { range = refl; even = refl; links = refl; places = refl; turns = refl; rim = refl; edges = refl; circles = refl }
 
@@ -114,13 +114,13 @@ unfolding square from offGrid crossOf norm2Of side lifted circle notBelow badVer
 square-row = record { range = refl; even = refl; links = refl; places = refl; turns = refl; rim = refl; edges = refl; circles = refl }
 
 -- of 7 the last clause alone meets the two sheets
-record Lone : Type 0 where
-  linked-each : some (unlinked (chart sheets)) (chart sheets .halfEdges) ≡ false
-  out-each : some (strayOut (chart sheets)) (chart sheets .vertices) ≡ false
-  adjacent-each : some (strayAdjacent (chart sheets)) (chart sheets .faces) ≡ false
-  leaves-again : some (leavesAgain (chart sheets)) (chart sheets .halfEdges) ≡ true
+pub record Lone : Type 0 where
+  pub linked-each : some (unlinked (chart sheets)) (chart sheets .halfEdges) ≡ false
+  pub out-each : some (strayOut (chart sheets)) (chart sheets .vertices) ≡ false
+  pub adjacent-each : some (strayAdjacent (chart sheets)) (chart sheets .faces) ≡ false
+  pub leaves-again : some (leavesAgain (chart sheets)) (chart sheets .halfEdges) ≡ true
 
-lone-row : Lone
+pub lone-row : Lone
 unfolding sheets from linked
 lone-row = record { linked-each = refl; out-each = refl; adjacent-each = refl; leaves-again = refl }
 
@@ -155,7 +155,7 @@ Ten c = some (overhung c) (c .halfEdges) ≡ false
 unseen : {t : Tables} {a b d e : Bool} → Row t a b d e false true → Seen (chart t) → ⊥
 unseen r s = false≢true (sym (r .edges) ∙ s ∙ r .circles)
 
-ranged : {t : Tables} {a b d e f g : Bool} → Row t a b d e f g → InRange (chart t)
+pub ranged : {t : Tables} {a b d e f g : Bool} → Row t a b d e f g → InRange (chart t)
 ranged {t} r = in-range (t .vs) (t .es) (t .fs) (r .range) (r .even)
 
 pub record Needed : Type 0 where
