@@ -2,7 +2,8 @@
  * every slice as it was; refused otherwise, with the same; accepted, with 01's answers ("Loads at the rim") and the oracle's floats, and
  * every element past the named ones as it was. Each slice ends at a page that cannot be touched. All of it once for each guard: as it was
  * means the same 64 bits, also where a float's are those of a not-a-number, which a copy through a float register could change. Charts are
- * written back beside the files that they were read from: triangle A's and the square's (its path is the second argument). */
+ * written back beside the files that they were read from: triangle A's and the square's (its path is the second argument). On both, loads in
+ * and around the chart lie where its corners say. */
 #define _DEFAULT_SOURCE
 #include <inttypes.h>
 #include <stdio.h>
@@ -167,6 +168,42 @@ static void interpolate(void) {
     EXPECT(estivolh_interpolate(chart, size, ESTIVOLH_BARYCENTRIC, 2, 3, v, 1) == 0 && has_bits(v[0], 4640537203540230144u));
     EXPECT(estivolh_interpolate(chart, size, ESTIVOLH_NATURAL, 2, 3, v, 1) == 0 && has_bits(v[0], 4640537203540230143u));
     EXPECT(estivolh_interpolate(chart, size, ESTIVOLH_GRADIENTS, 2, 3, w, 3) == 0 && has_bits(w[0], 4640537203540230144u) && kept(w, 1, 3));
+}
+
+/* What lies where, by the corners of triangle A, (0,0), (10,0), (0,10), and of the square with sides of 10, whose diagonal is x = y. */
+static uint64_t in_triangle(int64_t x, int64_t y) {
+    if (x < 0 || y < 0 || x + y > 10) {
+        return ESTIVOLH_OUTSIDE_OF_HULL;
+    }
+    int sides = (x == 0) + (y == 0) + (x + y == 10);
+    return sides == 2 ? ESTIVOLH_ON_VERTEX : sides == 1 ? ESTIVOLH_ON_EDGE : ESTIVOLH_ON_FACE;
+}
+static uint64_t in_square(int64_t x, int64_t y) {
+    if (x < 0 || y < 0 || x > 10 || y > 10) {
+        return ESTIVOLH_OUTSIDE_OF_HULL;
+    }
+    int sides = (x == 0) + (y == 0) + (x == 10) + (y == 10);
+    return sides == 2 ? ESTIVOLH_ON_VERTEX : sides == 1 || x == y ? ESTIVOLH_ON_EDGE : ESTIVOLH_ON_FACE;
+}
+
+/* Every load has a place: on the chart no call refuses it, and outside all but estivolh_locate give 14 (02, CR 2). */
+static void placed(const uint8_t *text, size_t bytes, int64_t x, int64_t y, uint64_t kind) {
+    uint64_t refusal = kind == ESTIVOLH_OUTSIDE_OF_HULL ? ESTIVOLH_REFUSED_OUTSIDE : ESTIVOLH_ACCEPTED;
+    uint64_t p[2], v[3], c[2], e[12];
+    double w[3], value[1];
+    EXPECT(estivolh_locate(text, bytes, x, y, p, 2) == 0 && p[0] == kind);
+    EXPECT(estivolh_barycentric_weights(text, bytes, x, y, v, 3, w, 3, c, 1) == refusal && (refusal != 0 || c[0] == kind));
+    EXPECT(estivolh_natural_neighbor_edges(text, bytes, x, y, e, 12, c, 2) == refusal);
+    EXPECT(estivolh_interpolate(text, bytes, ESTIVOLH_BARYCENTRIC, x, y, value, 1) == refusal);
+}
+static void places(void) {
+    for (int64_t x = -2; x <= 12; x++) {
+        for (int64_t y = -2; y <= 12; y++) {
+            placed(chart, size, x, y, in_triangle(x, y));
+            placed(square_chart, square_size, x, y, in_square(x, y));
+        }
+    }
+    EXPECT(ESTIVOLH_REFUSED_BROKEN_TURN == 15);
 }
 
 static void charge(void) {
@@ -477,6 +514,7 @@ int main(int argc, char **argv) {
         guard = guards[i];
         every_call();
     }
+    places();
     printf("-- %d checks of the exported calls, also around not-a-numbers, %d failed\n", checks, failures);
     return failures != 0;
 }

@@ -22,14 +22,14 @@ use Rattle.nearby.specs.Once.{Down, down-or-none}
 use Rattle.home.specs.Lowest.{none-above}
 
 -- 1 above 0, else 0
-unfoldable pub tp : S → ℤ
-tp below = pos 0
-tp nil = pos 0
-tp above = pos 1
+unfoldable isUp : S → ℤ
+isUp below = pos 0
+isUp nil = pos 0
+isUp above = pos 1
 
-step-up : (a b : S) → Is (ne a ⇒ ne b ⇒ (up a & dn b ⇒ fail) ⇒ hi (sg (tp b -ℤ tp a)) & (ze (sg (tp b -ℤ tp a)) ⇒ (up a ⇒ up b) & (up b ⇒ up a)))
-unfolding test2 tp sg
-step-up = every2 (λ a b. ne a ⇒ ne b ⇒ (up a & dn b ⇒ fail) ⇒ hi (sg (tp b -ℤ tp a)) & (ze (sg (tp b -ℤ tp a)) ⇒ (up a ⇒ up b) & (up b ⇒ up a))) tt
+step-up : (a b : S) → Is (ne a ⇒ ne b ⇒ (up a & dn b ⇒ fail) ⇒ hi (sg (isUp b -ℤ isUp a)) & (ze (sg (isUp b -ℤ isUp a)) ⇒ (up a ⇒ up b) & (up b ⇒ up a)))
+unfolding test2 isUp sg
+step-up = every2 (λ a b. ne a ⇒ ne b ⇒ (up a & dn b ⇒ fail) ⇒ hi (sg (isUp b -ℤ isUp a)) & (ze (sg (isUp b -ℤ isUp a)) ⇒ (up a ⇒ up b) & (up b ⇒ up a))) tt
 
 neg-sub : (a b : ℤ) → negℤ a -ℤ negℤ b ≡ negℤ (a -ℤ b)
 neg-sub a b = sym (negℤ-+ℤ a (negℤ b))
@@ -44,9 +44,9 @@ module _ (c : Chart) (snd : Sound c) (q ρ : Place) (dif : Differ c snd q ρ) (l
   -- ---- where none goes down none goes up, as the rim is closed
   module _ (still : (h : ℕ) → Down c snd q ρ dif low h → ⊥) where
     g : ℕ → ℤ
-    g h = cond (eqb (c .face h) 0) (tp (sg (al h))) (pos 0)
+    g h = cond (eqb (c .face h) 0) (isUp (sg (al h))) (pos 0)
 
-    g-out : (h : ℕ) → c .face h ≡ 0 → g h ≡ tp (sg (al h))
+    g-out : (h : ℕ) → c .face h ≡ 0 → g h ≡ isUp (sg (al h))
     unfolding g
     g-out h e = rw (eq-eqb (c .face h) 0 e)
 
@@ -57,15 +57,15 @@ module _ (c : Chart) (snd : Sound c) (q ρ : Place) (dif : Differ c snd q ρ) (l
     rise : ℕ → ℤ
     rise h = g (c .next h) -ℤ g h
 
-    test : (h : ℕ) → h < c .halfEdges → c .face h ≡ 0 → Is (hi (sg (tp (sg (al (c .next h))) -ℤ tp (sg (al h)))) & (ze (sg (tp (sg (al (c .next h))) -ℤ tp (sg (al h)))) ⇒ (up (sg (al h)) ⇒ up (sg (al (c .next h)))) & (up (sg (al (c .next h))) ⇒ up (sg (al h)))))
+    test : (h : ℕ) → h < c .halfEdges → c .face h ≡ 0 → Is (hi (sg (isUp (sg (al (c .next h))) -ℤ isUp (sg (al h)))) & (ze (sg (isUp (sg (al (c .next h))) -ℤ isUp (sg (al h)))) ⇒ (up (sg (al h)) ⇒ up (sg (al (c .next h)))) & (up (sg (al (c .next h))) ⇒ up (sg (al h)))))
     test h l o =
         fire (fire (fire (step-up (sg (al h)) (sg (al (c .next h)))) (off-al h l .is)) (off-al (c .next h) (snd .range .nexts h l) .is))
         (failed (λ p. still h (record { there = l; outer = o; from-up = record { is = left p }; to-down = record { is = right p } })))
 
-    rise-out : (h : ℕ) → h < c .halfEdges → c .face h ≡ 0 → rise h ≡ tp (sg (al (c .next h))) -ℤ tp (sg (al h))
+    rise-out : (h : ℕ) → h < c .halfEdges → c .face h ≡ 0 → rise h ≡ isUp (sg (al (c .next h))) -ℤ isUp (sg (al h))
     unfolding rise
     rise-out h l o =
-        ap (λ (x : ℤ). x -ℤ g h) (g-out (c .next h) (snd .next-face h l ∙ o)) ∙ ap (λ (x : ℤ). tp (sg (al (c .next h))) -ℤ x) (g-out h o)
+        ap (λ (x : ℤ). x -ℤ g h) (g-out (c .next h) (snd .next-face h l ∙ o)) ∙ ap (λ (x : ℤ). isUp (sg (al (c .next h))) -ℤ x) (g-out h o)
 
     rise-in : (h : ℕ) → h < c .halfEdges → (c .face h ≡ 0 → ⊥) → rise h ≡ pos 0
     unfolding rise
@@ -89,7 +89,7 @@ module _ (c : Chart) (snd : Sound c) (q ρ : Place) (dif : Differ c snd q ρ) (l
 
     same : (h : ℕ) → h < c .halfEdges → c .face h ≡ 0 → (Pos (al h) → Pos (al (c .next h))) × (Pos (al (c .next h)) → Pos (al h))
     same h l o =
-        let z : Zero (tp (sg (al (c .next h))) -ℤ tp (sg (al h))) =
+        let z : Zero (isUp (sg (al (c .next h))) -ℤ isUp (sg (al h))) =
         subst Zero (rise-out h l o) (sum-none rise (c .halfEdges) rise-high rise-sum h l) in
         let t = fire (right (test h l o)) (z .is) in
         (λ p. record { is = fire (left t) (p .is) }, λ p. record { is = fire (right t) (p .is) })

@@ -1,6 +1,7 @@
 -- 02, CR 2, of the chart that every call takes from an accepted file: a load strictly left of no outer half-edge has one home, and every other is outside. Of
 -- every place, on the grid or off it. Assumes nothing.
 use mathlib.Core.Path.{_≡_}
+use mathlib.Core.Logic.{_⊎_}
 use mathlib.Core.Bool.{true}
 use mathlib.Core.List.{List}
 use Prim.Native.Nat.{ℕ, _<_}
@@ -14,14 +15,13 @@ use Rattle.accepted.specs.Bytes.{chart-accepted}
 use Rattle.locate.specs.declared.Location.the-variants.{OnFace, OutsideOfConvexHull}
 use Rattle.locate.specs.Location.{inFace, leftOfOuter, locationOf}
 use Rattle.home.specs.Located.{leftOfRim, InsideRim, Housed, housed, homes-inside, outside-left, left-outside, face-location, OnSomeVertex, OnSomeEdge, InSomeFace}
-use mathlib.Core.Logic.{_⊎_}
 
 pub record Homes (c : Chart) (q : Place) : Type 0 where
-  -- a load strictly left of no outer half-edge is on a vertex, on an open edge or strictly inside a face, exactly one of these three, and that one is the only one
+  -- a load strictly left of no outer half-edge is on exactly one of the three
   pub one-home : InsideRim c q → Housed c q
   -- a load on one of the three is strictly left of no outer half-edge
   pub inside : OnSomeVertex c q ⊎ (OnSomeEdge c q ⊎ InSomeFace c q) → InsideRim c q
-  -- so 'outside', with the lowest outer half-edge that the load is strictly left of, is the location of every other load, and of no more
+  -- so every other load, and no more, is outside, with the lowest outer half-edge that it is strictly left of
   pub outside : leftOfRim c q ≡ true → locationOf c q ≡ OutsideOfConvexHull (first (leftOfOuter c q) (c .halfEdges))
   pub outside-only : (h : ℕ) → locationOf c q ≡ OutsideOfConvexHull h → (h < c .halfEdges) × (leftOfOuter c q h ≡ true)
   -- and a face that strictly holds the load is its location

@@ -1,5 +1,5 @@
--- 01, "Location": where a load q lies on a chart. First that holds: the vertex at q; the lowest even half-edge with q on its open segment; the lowest
--- inner face with q strictly left of its three half-edges; the lowest outer half-edge with q strictly left.
+-- 01, "Location", without its "else 15" (02, CR 2): where a load q lies on a chart. First that holds: the vertex at q; the lowest even half-edge with q on its
+-- open segment; the lowest inner face with q strictly left of its three half-edges; the lowest outer half-edge with q strictly left.
 use mathlib.Core.Bool.{Bool, cond, _&&_}
 use Prim.Native.Nat.{ℕ, _%_}
 use lib.Dec.{ltb, eqb}
@@ -46,7 +46,7 @@ leftOfOuter c q h = outer c h && leftOf c q h
 abbrev pub lowest : (ℕ → Bool) → ℕ → (ℕ → Location) → Location → Location
 lowest p n answer others = cond (some p n) (answer (first p n)) others
 
--- first that holds; a load that the first three do not hold is outside, strictly left of an outer half-edge (`outside-left`, crate `home`)
+-- first that holds; on an accepted chart, where none of the first three does, the last does (`outside-only`, crate `loads`)
 unfoldable pub locationOf : Chart → Place → Location
 locationOf c q =
     lowest (atVertex c q) (c .vertices) OnVertex

@@ -13,7 +13,7 @@ ghost use Rattle.lines.specs.Lines.{Drawn};
 ghost use Rattle.locate.specs.Location.{atVertex, onEdge, onEvenEdge, leftOf, leftOfThree, inFace, leftOfOuter, locationOf};
 ghost use Rattle.locate.specs.Sides.{Sides};
 
-// The Rust's `PositionInTriangulation`.
+// The Rust's `PositionInTriangulation`, without its `NoTriangulation`: a load on a chart has a place or is outside.
 pub enum Location {
     OnVertex(usize),
     OnEdge(usize),
