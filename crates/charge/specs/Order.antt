@@ -8,7 +8,7 @@ use lib.IntN.{ℤ, pos, negsuc, subℕ, _-ℤ_}
 use lib.Signed.{_≤ℤ_, _<ℤ_}
 use borrow.Author.Tests.{lt-ltb, le-ltb}
 use Rattle.signs.specs.Signs.{Pos, High}
-use Rattle.signs.specs.Order.{nat-high, nat-pos, pos-nat, pos-high, below-low}
+use Rattle.signs.specs.Order.{nat-high, nat-pos, pos-nat, pos-high, not-high}
 
 -- ---- differences of natural numbers
 sub-atleast : (a b : ℕ) → suc b ≤ a → High (subℕ a (suc b))
@@ -21,14 +21,14 @@ atleast-sub : (a b : ℕ) → High (subℕ a (suc b)) → suc b ≤ a
 atleast-sub a b h = go (decLt a (suc b))
   where
     go : Dec (a < suc b) → suc b ≤ a
-    go (yes p) = let z : High (negsuc (suc b - suc a)) = rw (lt-ltb a (suc b) p) at h in below-low z
+    go (yes p) = let z : High (negsuc (suc b - suc a)) = rw (lt-ltb a (suc b) p) at h in not-high z
     go (no p) = omega arith
 
 pub above-sub : (a b : ℕ) → Pos (subℕ a (suc b)) → suc b < a
 above-sub a b h = go (decLt a (suc b))
   where
     go : Dec (a < suc b) → suc b < a
-    go (yes p) = let z : Pos (negsuc (suc b - suc a)) = rw (lt-ltb a (suc b) p) at h in below-low (pos-high z)
+    go (yes p) = let z : Pos (negsuc (suc b - suc a)) = rw (lt-ltb a (suc b) p) at h in not-high (pos-high z)
     go (no p) = let z : Pos (pos (a - suc b)) = rw (le-ltb a (suc b) (omega arith)) at h in omega (arith, pos-nat (a - suc b) z)
 
 -- ---- a ≤ b exactly where b - a is not below 0
@@ -43,7 +43,7 @@ pub atleast-le : (a b : ℤ) → High (b -ℤ a) → a ≤ℤ b
 atleast-le (pos zero) (pos b) h = record { le = le→leb 0 b zero-le }
 atleast-le (pos (suc a)) (pos b) h = record { le = le→leb (suc a) b (atleast-sub b a h) }
 atleast-le (pos zero) (negsuc b) h = absurd (not-suc-le-zero (atleast-sub 0 b h))
-atleast-le (pos (suc a)) (negsuc b) h = below-low h
+atleast-le (pos (suc a)) (negsuc b) h = not-high h
 atleast-le (negsuc a) (pos b) h = record { le = tt }
 atleast-le (negsuc a) (negsuc b) h = record { le = le→leb b a (omega (arith, atleast-sub (suc a) b h)) }
 
@@ -59,6 +59,6 @@ pub above-lt : (a b : ℤ) → Pos (b -ℤ a) → a <ℤ b
 above-lt (pos zero) (pos b) h = record { lt = lt→ltb 0 b (omega (arith, pos-nat (b + 0) h)) }
 above-lt (pos (suc a)) (pos b) h = record { lt = lt→ltb (suc a) b (above-sub b a h) }
 above-lt (pos zero) (negsuc b) h = absurd (not-suc-le-zero (above-sub 0 b h))
-above-lt (pos (suc a)) (negsuc b) h = below-low (pos-high h)
+above-lt (pos (suc a)) (negsuc b) h = not-high (pos-high h)
 above-lt (negsuc a) (pos b) h = record { lt = tt }
 above-lt (negsuc a) (negsuc b) h = record { lt = lt→ltb b a (omega (arith, above-sub (suc a) b h)) }

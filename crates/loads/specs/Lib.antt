@@ -1,3 +1,4 @@
 pub mod Homes
+pub mod Calls
 pub mod MethodOne
 pub mod Answers

@@ -2,13 +2,12 @@
 -- Assumes nothing.
 use mathlib.Core.Path.{_≡_, refl, sym, subst, ap, _∙_}
 use mathlib.Core.Logic.{_⊎_, inl, inr}
-use mathlib.Core.Bool.{Bool, true, false, cond, false≢true}
+use mathlib.Core.Bool.{Bool, true, false, cond}
 use mathlib.Core.List.{List}
 use Prim.Native.Nat.{ℕ, _≤_}
 use native.Mathlib.Omega.{arith}
 use lib.IntN.{ℤ, pos}
 use lib.Ieee.{Float}
-use Rattle.whole.specs.First.{none-at}
 use Rattle.geometry.specs.declared.Place.{Place}
 use Rattle.geometry.specs.Plane.{offGrid}
 use Rattle.chart.specs.Tables.{unsigned}
@@ -18,14 +17,9 @@ use Rattle.sound.specs.Sound.{Sound}
 use Rattle.checks.specs.Checks.Loaded.{loaded}
 use Rattle.reading.specs.Reading.{chartIn}
 use Rattle.accepted.specs.Bytes.{chart-accepted}
-use Rattle.locate.specs.declared.Location.{Location}
-use Rattle.locate.specs.declared.Location.the-variants.{OnVertex, OnEdge, OnFace, OutsideOfConvexHull}
-use Rattle.locate.specs.Location.{leftOfOuter, locationOf}
-use Rattle.home.specs.Located.{leftOfRim, outside-left, left-outside}
-use Rattle.weights.specs.Barycentric.{weighTwo, weighThree}
-use Rattle.values.specs.Located.{placeRefusal}
-use Rattle.values.specs.Value.{Answer, methodOf, valueFrom, locatedValue, valueOn, value-located}
-use Rattle.values.specs.Value.Answer.{value, turnedDown}
+use Rattle.home.specs.Located.{leftOfRim}
+use Rattle.values.specs.Value.{methodOf, locatedValue, valueOn, value-located}
+use Rattle.values.specs.Value.Answer.{value}
 use Rattle.query.specs.Value.{valueIn}
 use Rattle.charge.specs.Charging.{ChargeMax, offScale}
 use Rattle.charge.specs.Nearest.{on-scale}
@@ -36,6 +30,7 @@ use Rattle.entries.specs.Entry.{isSplice, unknown, placeIn}
 use Rattle.entries.specs.Ruling.{meets17, with17}
 use Rattle.accounts.specs.Rulings.{charged, bendRuling, entryRuling}
 use Rattle.estivolh.specs.Account.{queries}
+use Rattle.loads.specs.Calls.{value-inside, value-outside}
 
 -- a bend by method 1
 abbrev pub ByMethodOne : Entry → Type 0
@@ -71,34 +66,6 @@ pub record MethodOne (chart : List ℕ) (c : Chart) (s : ℕ) (e : Entry) : Type
       → (v : Float) × (queries chart (e .method) (placeIn e) ≡ value v) × (entryRuling queries s chart e ≡ charged (unsigned (e .section)) v)
   -- 17 comes last, by any total and counts: no other number refuses it
   pub no-other : (total : ℕ) (count : ℕ → ℕ) → BendOrOneOf (with17 total count (entryRuling queries s chart e))
-
--- ---- the value by method 1
-abbrev IsValue : Answer → Type 0
-IsValue (value v) = Unit {0}
-IsValue (turnedDown k) = ⊥
-
-value-of : (a : Answer) → IsValue a → (v : Float) × (a ≡ value v)
-value-of (value v) h = (v, refl)
-value-of (turnedDown k) h = absurd h
-
-module _ (c : Chart) (snd : Sound c) (q : Place) where
-  at-place : (l : Location) → ((n : ℕ) → l ≡ OutsideOfConvexHull n → ⊥) → IsValue (valueFrom (placeRefusal l) 1 c q l)
-  unfolding weighTwo weighThree
-  at-place (OnVertex v) h = tt
-  at-place (OnEdge e) h = tt
-  at-place (OnFace f) h = tt
-  at-place (OutsideOfConvexHull n) h = absurd (h n refl)
-
-  value-inside : leftOfRim c q ≡ false → (v : Float) × (locatedValue 1 c q ≡ value v)
-  unfolding locatedValue
-  value-inside e = value-of (valueFrom (placeRefusal (locationOf c q)) 1 c q (locationOf c q)) (at-place (locationOf c q) bar)
-    where
-      bar : (n : ℕ) → locationOf c q ≡ OutsideOfConvexHull n → ⊥
-      bar n w = let o = outside-left c q snd n w in false≢true (sym (none-at (leftOfOuter c q) (c .halfEdges) e n (o .0)) ∙ o .1)
-
-  value-outside : leftOfRim c q ≡ true → locatedValue 1 c q ≡ turnedDown 14
-  unfolding locatedValue
-  value-outside e = ap (λ (l : Location). valueFrom (placeRefusal l) 1 c q l) (left-outside c q snd e)
 
 -- ---- 16, and 17
 charged-one : (i : ℕ) (v : Float) → BendOrOneOf (charged i v)

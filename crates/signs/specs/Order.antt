@@ -33,9 +33,9 @@ unfolding sg ev
 pos-nat zero h = absurd (h .is .is)
 pos-nat (suc n) h = omega arith
 
-pub below-low : {X : Type 0} {n : ℕ} → High (negsuc n) → X
+pub not-high : {X : Type 0} {n : ℕ} → High (negsuc n) → X
 unfolding sg ev
-below-low h = absurd (h .is .is)
+not-high h = absurd (h .is .is)
 
 pub one-pos : Pos (pos 1)
 unfolding sg ev
