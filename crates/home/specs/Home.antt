@@ -60,7 +60,7 @@ module _ (c : Chart) (snd : Sound c) (q : Place) where
   dot-side : (h : ℕ) → h < c .halfEdges → dots (A h) (B h) q ≡ dotsAt c q h
   dot-side h l = ap (λ (v : ℕ). dots (A h) (c .place v) q) (snd .next-start h l)
 
-  -- ---- an open edge, from a half-edge whose face is inner
+  -- ---- an open edge, by the starts of its half-edge and of the next one
   pub record Open (h : ℕ) : Type 0 where
     pub there : h < c .halfEdges
     pub on : Zero (sd h)
@@ -240,7 +240,29 @@ module _ (c : Chart) (snd : Sound c) (q : Place) where
     held-adds : (h : ℕ) → Held h → Pos (tri h)
     held-adds h e = N.held-adds c snd q ρ dif low off h (e .there) (e .inner) (e .first) (e .second) (e .third)
 
-    -- of the two half-edges of an open edge the one whose face the ray counts
+    -- ---- an open edge seen from an inner side: its face counts where it starts left of the ray
+    record Seen (t : ℕ) : Type 0 where
+      pub second : Pos (sd (c .next t))
+      pub third : Pos (sd (c .prev t))
+      pub starts : Pos (tri t) ⊎ (Neg (ray ρ q (A t)) × Pos (ray ρ q (B t)))
+
+    seen : (t : ℕ) → Open t → (c .face t ≡ 0 → ⊥) → Seen t
+    seen t e i = record { second = s .0; third = s .1; starts = pick (either sides) }
+      where
+        l : t < c .halfEdges
+        l = e .there
+
+        s : Pos (sd (c .next t)) × Pos (sd (c .prev t))
+        s = R.open-sides c snd t q l i (e .on) (e .between)
+
+        sides : Is (up (sg (ray ρ q (A t))) & dn (sg (ray ρ q (B t))) or dn (sg (ray ρ q (A t))) & up (sg (ray ρ q (B t))))
+        sides = left-ray ρ q (A t) (B t) (C t) (e .on) (subst Pos (Ch.side-next c snd t q l i) (s .0)) (subst Pos (Ch.side-prev c snd t q l) (s .1)) (off (c .origin t) (snd .range .origins t l))
+
+        pick : Is (up (sg (ray ρ q (A t))) & dn (sg (ray ρ q (B t)))) ⊎ Is (dn (sg (ray ρ q (A t))) & up (sg (ray ρ q (B t)))) → Pos (tri t) ⊎ (Neg (ray ρ q (A t)) × Pos (ray ρ q (B t)))
+        pick (inl r) = inl (N.edge-adds c snd q ρ dif low off t l i (e .on) (s .0) (s .1) (record { is = left r }))
+        pick (inr r) = inr (record { is = left r }, record { is = right r })
+
+    -- of two inner sides the one whose face counts
     record Plus (h t : ℕ) : Type 0 where
       pub which : (t ≡ h) ⊎ (t ≡ partner h)
       pub open-at : Open t
@@ -249,31 +271,23 @@ module _ (c : Chart) (snd : Sound c) (q : Place) where
       pub third : Pos (sd (c .prev t))
       pub counted : Pos (tri t)
 
-    plus-at : (h t : ℕ) → (t ≡ h) ⊎ (t ≡ partner h) → Open t → (c .face t ≡ 0 → ⊥) → Pos (ray ρ q (A t)) → Plus h t
-    plus-at h t w e i a =
-        let s = R.open-sides c snd t q (e .there) i (e .on) (e .between) in
-        record {
-          which = w;
-          open-at = e;
-          inner = i;
-          second = s .0;
-          third = s .1;
-          counted = N.edge-adds c snd q ρ dif low off t (e .there) i (e .on) (s .0) (s .1) a;
-        }
-
     plus : (h : ℕ) → Open h → (c .face h ≡ 0 → ⊥) → (c .face (partner h) ≡ 0 → ⊥) → (t : ℕ) × Plus h t
-    plus h e i j = pick (either (left-ray ρ q (A h) (B h) (C h) (e .on) (subst Pos (Ch.side-next c snd h q l i) (s .0)) (subst Pos (Ch.side-prev c snd h q l) (s .1)) (off (c .origin h) (snd .range .origins h l))))
+    plus h e i j = pick (seen h e i .starts)
       where
-        l : h < c .halfEdges
-        l = e .there
+        u : Open (partner h)
+        u = open-twin h e
 
-        s : Pos (sd (c .next h)) × Pos (sd (c .prev h))
-        s = R.open-sides c snd h q l i (e .on) (e .between)
+        v : Seen (partner h)
+        v = seen (partner h) u j
 
-        pick : Is (up (sg (ray ρ q (A h))) & dn (sg (ray ρ q (B h)))) ⊎ Is (dn (sg (ray ρ q (A h))) & up (sg (ray ρ q (B h)))) → (t : ℕ) × Plus h t
-        pick (inl r) = (h, plus-at h h (inl refl) e i (record { is = left r }))
-        pick (inr r) =
-            (partner h, plus-at h (partner h) (inr refl) (open-twin h e) j (subst (λ (p : Place). Pos (ray ρ q p)) (sym (Ch.twin-A c snd h l)) (record { is = right r })))
+        other : Pos (ray ρ q (B h)) → Pos (tri (partner h))
+        other p =
+            N.edge-adds c snd q ρ dif low off (partner h) (u .there) j (u .on) (v .second) (v .third)
+            (subst (λ (x : Place). Pos (ray ρ q x)) (sym (Ch.twin-A c snd h (e .there))) p)
+
+        pick : Pos (tri h) ⊎ (Neg (ray ρ q (A h)) × Pos (ray ρ q (B h))) → (t : ℕ) × Plus h t
+        pick (inl p) = (h, record { which = inl refl; open-at = e; inner = i; second = seen h e i .second; third = seen h e i .third; counted = p })
+        pick (inr r) = (partner h, record { which = inr refl; open-at = u; inner = j; second = v .second; third = v .third; counted = other (r .1) })
 
     -- ---- so q has one home at most
     edge-held : (h k : ℕ) → Open h → (c .face h ≡ 0 → ⊥) → (c .face (partner h) ≡ 0 → ⊥) → Held k → ⊥
@@ -316,48 +330,33 @@ module _ (c : Chart) (snd : Sound c) (q : Place) where
     rim-rim : (h k : ℕ) → Open h → Open k → c .face h ≡ 0 → c .face k ≡ 0 → h ≡ k
     rim-rim h k e e' o o' = pick (crosses h e o) (crosses k e' o')
       where
+        inner : (h : ℕ) → Open h → c .face h ≡ 0 → c .face (partner h) ≡ 0 → ⊥
+        inner h e o = R.inner-side c snd h (e .there) o
+
+        within : (h : ℕ) → Open h → c .face h ≡ 0 → Seen (partner h)
+        within h e o = seen (partner h) (open-twin h e) (inner h e o)
+
         crosses : (h : ℕ) → Open h → c .face h ≡ 0 → Pos (tri (partner h)) ⊎ O.Down c snd q ρ dif low h
-        crosses h e o = choose (either (left-ray ρ q (A t) (B t) (C t) (u .on) (subst Pos (Ch.side-next c snd t q tl i) (s .0)) (subst Pos (Ch.side-prev c snd t q tl) (s .1)) (off (c .origin t) (snd .range .origins t tl))))
+        crosses h e o = choose (within h e o .starts)
           where
-            l : h < c .halfEdges
-            l = e .there
-
-            t : ℕ
-            t = partner h
-
-            u : Open t
-            u = open-twin h e
-
-            tl : t < c .halfEdges
-            tl = u .there
-
-            i : c .face t ≡ 0 → ⊥
-            i = R.inner-side c snd h l o
-
-            s : Pos (sd (c .next t)) × Pos (sd (c .prev t))
-            s = R.open-sides c snd t q tl i (u .on) (u .between)
-
-            choose : Is (up (sg (ray ρ q (A t))) & dn (sg (ray ρ q (B t)))) ⊎ Is (dn (sg (ray ρ q (A t))) & up (sg (ray ρ q (B t)))) → Pos (tri t) ⊎ O.Down c snd q ρ dif low h
-            choose (inl r) = inl (N.edge-adds c snd q ρ dif low off t tl i (u .on) (s .0) (s .1) (record { is = left r }))
+            choose : Pos (tri (partner h)) ⊎ (Neg (ray ρ q (A (partner h))) × Pos (ray ρ q (B (partner h)))) → Pos (tri (partner h)) ⊎ O.Down c snd q ρ dif low h
+            choose (inl p) = inl p
             choose (inr r) =
                 inr
                 (record {
-                  there = l;
+                  there = e .there;
                   outer = o;
-                  from-up = subst (λ (p : Place). Pos (ray ρ q p)) (Ch.twin-B c snd h l) (record { is = right r });
-                  to-down = subst (λ (p : Place). Neg (ray ρ q p)) (Ch.twin-A c snd h l) (record { is = left r });
+                  from-up = subst (λ (p : Place). Pos (ray ρ q p)) (Ch.twin-B c snd h (e .there)) (r .1);
+                  to-down = subst (λ (p : Place). Neg (ray ρ q p)) (Ch.twin-A c snd h (e .there)) (r .0);
                 })
-
-        inner : (h : ℕ) → Open h → c .face h ≡ 0 → c .face (partner h) ≡ 0 → ⊥
-        inner h e o = R.inner-side c snd h (e .there) o
 
         -- of one face, and neither is the next of the other
         one : Pos (tri (partner h)) → Pos (tri (partner k)) → (partner k ≡ partner h) ⊎ ((partner k ≡ c .next (partner h)) ⊎ (partner k ≡ c .prev (partner h))) → h ≡ k
         one p p' (inl w) = sym (sym (partner-twice k) ∙ ap partner w ∙ partner-twice h)
         one p p' (inr (inl w)) =
-            absurd (pos-zero (subst (λ (x : ℕ). Pos (sd x)) (sym w) (R.open-sides c snd (partner h) q (open-twin h e .there) (inner h e o) (open-twin h e .on) (open-twin h e .between) .0)) (open-twin k e' .on))
+            absurd (pos-zero (subst (λ (x : ℕ). Pos (sd x)) (sym w) (within h e o .second)) (open-twin k e' .on))
         one p p' (inr (inr w)) =
-            absurd (pos-zero (subst (λ (x : ℕ). Pos (sd x)) (sym w) (R.open-sides c snd (partner h) q (open-twin h e .there) (inner h e o) (open-twin h e .on) (open-twin h e .between) .1)) (open-twin k e' .on))
+            absurd (pos-zero (subst (λ (x : ℕ). Pos (sd x)) (sym w) (within h e o .third)) (open-twin k e' .on))
 
         pick : Pos (tri (partner h)) ⊎ O.Down c snd q ρ dif low h → Pos (tri (partner k)) ⊎ O.Down c snd q ρ dif low k → h ≡ k
         pick (inl p) (inl p') = one p p' (one-adds (partner h) (partner k) (open-twin h e .there) (open-twin k e' .there) (inner h e o) (inner k e' o') p p')
