@@ -3,7 +3,7 @@ use mathlib.Core.Path.{_≡_, refl, sym, _∙_, ap, subst}
 use mathlib.Core.Logic.{_↔_}
 use mathlib.Core.List.{List, [], _∷_, _++_, map}
 use mathlib.Core.Bool.{Bool, true, false, cond}
-use Prim.Native.Nat.{ℕ, zero, suc, _≤_, _<_}
+use Prim.Native.Nat.{ℕ, zero, suc, _+_, _≤_, _<_}
 use native.Mathlib.Omega.{arith}
 use lib.Dec.{eqb}
 use lib.IntN.{ℤ}
@@ -17,7 +17,7 @@ use Rattle.book.specs.Laws.{fresh-wear, fresh-count, fresh-valid, valid-book}
 use Rattle.entries.specs.declared.Entry.{Entry}
 use Rattle.entries.specs.declared.Ruling.{Ruling}
 use Rattle.entries.specs.declared.Ruling.the-variants.{Bend, Splice, Refused}
-use Rattle.entries.specs.Entry.{entriesOf}
+use Rattle.entries.specs.Entry.{EntryWidth, entriesFrom, entriesOf}
 use Rattle.entries.specs.Ruling.{RefusedEntry, meets17, with17, answerOf}
 use Rattle.accounts.specs.Rulings.{Queries, Known, entryRuling, known}
 use Rattle.accounts.specs.Batch.{bookChange, bookVerdict, bookAfter, answersFrom, batchRefusal, Outcome, outcome, byRefusal}
@@ -83,6 +83,11 @@ by-answer s (Bend i n) k = (λ h. tt, λ u. omega (arith, k .1))
 by-answer s (Splice i) k = (λ h. tt, λ u. omega arith)
 by-answer s (Refused i) k = (λ h. omega arith, λ u. absurd u)
 
+-- ---- so many entries from a place on
+pub entries-count : (es : List ℤ) (k at : ℕ) → length (entriesFrom es at k) ≡ k
+entries-count es zero at = refl
+entries-count es (suc k) at = ap suc (entries-count es k (at + EntryWidth))
+
 module _ (Q : Queries) where
   -- ---- a call on a book that 1 does not meet
   by-refused : (r : ℕ) (b : Book) (chart : List ℕ) (es : List ℤ) (lent : List ℕ) → (r ≡ 0 → ⊥)
@@ -119,7 +124,7 @@ module _ (Q : Queries) where
   answers-append chart (e ∷ xs) ys b =
       ap (λ (l : List ℕ). answerOf (bookVerdict Q chart b e) ∷ l) (answers-append chart xs ys (bookChange b (bookVerdict Q chart b e)))
 
-  answers-length : (chart : List ℕ) (es : List Entry) (b : Book) → length (answersFrom Q chart b es) ≡ length es
+  pub answers-length : (chart : List ℕ) (es : List Entry) (b : Book) → length (answersFrom Q chart b es) ≡ length es
   answers-length chart [] b = refl
   answers-length chart (e ∷ es) b = ap suc (answers-length chart es (bookChange b (bookVerdict Q chart b e)))
 

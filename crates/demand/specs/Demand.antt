@@ -18,7 +18,7 @@ use Rattle.entries.specs.Entry.{EntryWidth, entryAt, entriesFrom, entriesOf}
 use Rattle.accounts.specs.Batch.{badSlices, outcome, batchOf}
 use Rattle.accounts.specs.Tally.{tally}
 use Rattle.accounts.specs.Demand.{Call, refusalIn, fresh, joined, OneChart, Accounted, Demand3, MadeCall, Made, callsOf, lastAnswers, Demand3Made}
-use Rattle.accounts.specs.Demand3.{demand3, demand3-made}
+use Rattle.accounts.specs.Demand3.{entries-count, demand3, demand3-made}
 use Rattle.estivolh.specs.Account.{queries}
 use Rattle.demand.specs.declared.Both.{Both}
 
@@ -101,10 +101,6 @@ entries-split es (suc k) m at =
     ap (entriesFrom es at) p
     ∙ ap (λ (l : List Entry). entryAt es at ∷ l)
     (entries-split es k m (at + EntryWidth) ∙ ap (λ (i : ℕ). entriesFrom es (at + EntryWidth) k ++ entriesFrom es i m) q)
-
-entries-count : (es : List ℤ) (k at : ℕ) → length (entriesFrom es at k) ≡ k
-entries-count es zero at = refl
-entries-count es (suc k) at = ap suc (entries-count es k (at + EntryWidth))
 
 -- neither 2 nor the chart refuses a call
 not-refused : (chart : List ℕ) (numbers room : ℕ) → chartRefusalOf chart ≡ 0 → numbers % EntryWidth ≡ 0 → numbers / EntryWidth ≤ room

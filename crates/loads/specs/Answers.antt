@@ -18,6 +18,7 @@ use Rattle.entries.specs.declared.Ruling.the-variants.{Bend, Splice, Refused}
 use Rattle.entries.specs.Entry.{EntryWidth, entryAt, entriesFrom, entriesOf}
 use Rattle.entries.specs.Ruling.{RefusedEntry, answerOf}
 use Rattle.accounts.specs.Batch.{bookChange, bookVerdict, answersFrom, overlay, badSlices, batchRefusal, Outcome, outcome, byRefusal, batchOf}
+use Rattle.accounts.specs.Demand3.{entries-count, answers-length}
 use Rattle.estivolh.specs.Account.{queries}
 use Rattle.loads.specs.MethodOne.{ByMethodOne, OneOf, BendOrOneOf, method-one}
 
@@ -42,10 +43,6 @@ module _ (chart : List ℕ) (es : List ℤ) (P : ℕ → Type 0) where
       answer-at n (at + EntryWidth) k (bookChange b (bookVerdict queries chart b (entryAt es at))) (omega arith)
       (λ d. subst (λ (j : ℕ). P (answerOf (bookVerdict queries chart d (entryAt es j)))) z (h d))
 
-  answers-count : (n at : ℕ) (b : Book) → length (answersFrom queries chart b (entriesFrom es at n)) ≡ n
-  answers-count zero at b = refl
-  answers-count (suc n) at b = ap suc (answers-count n (at + EntryWidth) (bookChange b (bookVerdict queries chart b (entryAt es at))))
-
 -- ---- a batch that was not refused
 pick : (x y : Bool) (n : ℕ) → cond x 1 (cond y 2 n) ≡ 0 → n ≡ 0
 pick true y n e = never (sym e)
@@ -64,7 +61,7 @@ answers-one b chart es lent r left made z k l one =
     let a = bytes-accepted chart (pick (badBook b) (badSlices (length es) (length lent)) (chartRefusalOf chart) (w .0)) in
     let n = length es / EntryWidth in
     let given = answersFrom queries chart b (entriesOf es) in
-    let m : k < length given = subst (λ (j : ℕ). k < j) (sym (answers-count chart es AcceptedOrOneOf n 0 b)) l in
+    let m : k < length given = subst (λ (j : ℕ). k < j) (sym (answers-length queries chart (entriesOf es) b ∙ entries-count es n 0)) l in
     let j : 0 + k * EntryWidth ≡ k * EntryWidth = omega arith in
     let one' : ByMethodOne (entryAt es (0 + k * EntryWidth)) = subst (λ (i : ℕ). ByMethodOne (entryAt es i)) (sym j) one in
     subst AcceptedOrOneOf (sym (ap (λ (s : List ℕ). getD s k 0) (w .1) ∙ List·getD-append given _ 0 k m))

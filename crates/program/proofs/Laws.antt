@@ -1,6 +1,6 @@
 -- The batch of a log's entries on the program's fresh book, and what is printed.
-use Prim.Native.Nat.{ℕ, zero, suc, _+_, _/_, _%_, _≤_}
-use mathlib.Core.List.{List, [], _∷_}
+use Prim.Native.Nat.{ℕ, zero, suc, _/_, _%_, _≤_}
+use mathlib.Core.List.{List}
 use mathlib.Core.Bool.{false}
 use mathlib.Core.Path.{_≡_, refl, ap, sym, _∙_}
 use native.Mathlib.Omega.{arith}
@@ -13,26 +13,15 @@ use Rattle.book.specs.declared.Returned.{Returned}
 use Rattle.book.specs.Books.{badBook}
 use Rattle.book.specs.Laws.{fresh-valid, valid-book}
 use Rattle.reading.specs.Reading.{chartRefusalOf}
-use Rattle.entries.specs.declared.Entry.{Entry}
-use Rattle.entries.specs.Entry.{EntryWidth, entriesFrom, entriesOf}
-use Rattle.accounts.specs.Rulings.{Queries}
-use Rattle.accounts.specs.Batch.{Outcome, outcome, bookVerdict, bookChange, bookAfter, answersFrom, batchRefusal, batchOf, byRefusal}
+use Rattle.entries.specs.Entry.{EntryWidth, entriesOf}
+use Rattle.accounts.specs.Batch.{Outcome, outcome, bookAfter, answersFrom, batchRefusal, batchOf, byRefusal}
+use Rattle.accounts.specs.Demand3.{entries-count, answers-length}
 use Rattle.log.specs.Log.{entriesMax, logOf}
 use Rattle.log.specs.Log.Log.{entries, refused}
 use Rattle.report.specs.Lines.{refusalLine, programSections}
 use Rattle.estivolh.specs.Account.{queries}
 use Rattle.columns.specs.Laid.{laid}
 use Rattle.program.specs.Program.{programBook, afterChart, entriesPrinted, refusalPrinted, ranOf, printedOf, Printed, WholeEntries}
-
--- ---- one answer for each entry
-
-answers-length : (Q : Queries) (chart : List ℕ) (b : Book) (es : List Entry) → length (answersFrom Q chart b es) ≡ length es
-answers-length Q chart b [] = refl
-answers-length Q chart b (e ∷ es) = ap suc (answers-length Q chart (bookChange b (bookVerdict Q chart b e)) es)
-
-from-length : (es : List ℤ) (at n : ℕ) → length (entriesFrom es at n) ≡ n
-from-length es at zero = refl
-from-length es at (suc n) = ap suc (from-length es (at + EntryWidth) n)
 
 -- ---- only the chart's refusals meet the batch
 
@@ -75,7 +64,7 @@ module _ (chart : List ℕ) (es : List ℤ) (lent left : List ℕ) (r : Returned
       let new = answersFrom queries chart programBook (entriesOf es) in
       ap (λ (o : Outcome). take (length es / EntryWidth) (o .answers)) done
       ∙ take-at new (drop (length new) lent) (length es / EntryWidth)
-      (answers-length queries chart programBook (entriesOf es) ∙ from-length es 0 (length es / EntryWidth))
+      (answers-length queries chart (entriesOf es) programBook ∙ entries-count es (length es / EntryWidth) 0)
 
 -- ---- what is printed, in the order of the refusals
 

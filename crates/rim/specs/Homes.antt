@@ -3,28 +3,21 @@
 use mathlib.Core.Path.{_≡_, refl}
 use mathlib.Core.Bool.{true, false}
 use mathlib.Core.List.{[], _∷_}
-use lib.IntN.{ℤ, pos, negsuc}
+use lib.IntN.{pos, negsuc}
 use Rattle.whole.specs.First.{from}
-use Rattle.geometry.specs.declared.Place.{Place}
-use Rattle.geometry.specs.Plane.{crossOf, dotOf, side, onOpenSegment}
+use Rattle.geometry.specs.Plane.{crossOf, dotOf, norm2Of, side, lifted, circle, onOpenSegment}
 use Rattle.chart.specs.Chart.{Chart, chartOf}
 use Rattle.checks.specs.Checks.{chartRefusal}
 use Rattle.links.specs.Links.{linked, linksBroken}
-use Rattle.geometry.specs.Plane.{norm2Of, lifted, circle}
 use Rattle.locate.specs.declared.Location.the-variants.{OnVertex, OnEdge, OnFace, OutsideOfConvexHull}
 use Rattle.locate.specs.Location.{onEdge, locationOf}
 use Rattle.home.specs.Located.{leftOfRim}
 use Rattle.triangle.specs.TriangleA.{verticesA, edgesA, facesA}
-
-abbrev place : ℤ → ℤ → Place
-place x y = record { x = x; y = y }
-
-abbrev chartA : Chart
-chartA = chartOf verticesA edgesA facesA
+use Rattle.rim.specs.Loads.{place, chartA}
 
 -- (0, 0), (10, 0), (0, 10) and (5, 0), a vertex in the middle of the lower side: faces 1 and 2 are left and right of the edge from (5, 0) to (0, 10)
-unfoldable pub halved : Chart
-halved =
+unfoldable pub straight : Chart
+straight =
     chartOf
     (pos 0 ∷ pos 0 ∷ pos 0 ∷ pos 0 ∷ pos 10 ∷ pos 0 ∷ pos 0 ∷ pos 6 ∷ pos 0 ∷ pos 10 ∷ pos 0 ∷ pos 4 ∷ pos 5 ∷ pos 0 ∷ pos 0 ∷ pos 2 ∷ [])
     (0 ∷ 2 ∷ 4 ∷ 1 ∷ 3 ∷ 5 ∷ 9 ∷ 0 ∷ 3 ∷ 4 ∷ 0 ∷ 1 ∷ 2 ∷ 8 ∷ 6 ∷ 2 ∷ 2 ∷ 0 ∷ 2 ∷ 1 ∷ 0 ∷ 7 ∷ 1 ∷ 0 ∷ 1 ∷ 3 ∷ 8 ∷ 2 ∷ 2 ∷ 9 ∷ 5 ∷ 0 ∷ 3 ∷ 6 ∷ 3 ∷ 2 ∷ 1 ∷ 1 ∷ 7 ∷ 0 ∷ [])
@@ -46,20 +39,20 @@ pub record Rows : Type 0 where
   pub before-the-start : leftOfRim chartA (place (negsuc 0) (pos 0)) ≡ true
   pub off-the-grid : leftOfRim chartA (place (pos 10001) (negsuc 10000)) ≡ true
   -- three vertices on one side: the middle one is no other home, the halves of the side are two edges, and the side's line goes on outside
-  pub halved-accepted : chartRefusal halved ≡ 0
-  pub middle : locationOf halved (place (pos 5) (pos 0)) ≡ OnVertex 3
-  pub first-half : locationOf halved (place (pos 4) (pos 0)) ≡ OnEdge 0
-  pub second-half : locationOf halved (place (pos 6) (pos 0)) ≡ OnEdge 8
-  pub not-first : onEdge halved (place (pos 6) (pos 0)) 0 ≡ false
-  pub between-faces : locationOf halved (place (pos 4) (pos 2)) ≡ OnEdge 2
-  pub first-face : locationOf halved (place (pos 3) (pos 2)) ≡ OnFace 1
-  pub second-face : locationOf halved (place (pos 5) (pos 2)) ≡ OnFace 2
-  pub halved-rim : leftOfRim halved (place (pos 6) (pos 0)) ≡ false
-  pub halved-beyond : leftOfRim halved (place (pos 11) (pos 0)) ≡ true
-  pub halved-outside : locationOf halved (place (pos 11) (pos 0)) ≡ OutsideOfConvexHull 7
+  pub straight-accepted : chartRefusal straight ≡ 0
+  pub middle : locationOf straight (place (pos 5) (pos 0)) ≡ OnVertex 3
+  pub first-half : locationOf straight (place (pos 4) (pos 0)) ≡ OnEdge 0
+  pub second-half : locationOf straight (place (pos 6) (pos 0)) ≡ OnEdge 8
+  pub not-first : onEdge straight (place (pos 6) (pos 0)) 0 ≡ false
+  pub between-faces : locationOf straight (place (pos 4) (pos 2)) ≡ OnEdge 2
+  pub first-face : locationOf straight (place (pos 3) (pos 2)) ≡ OnFace 1
+  pub second-face : locationOf straight (place (pos 5) (pos 2)) ≡ OnFace 2
+  pub straight-rim : leftOfRim straight (place (pos 6) (pos 0)) ≡ false
+  pub straight-beyond : leftOfRim straight (place (pos 11) (pos 0)) ≡ true
+  pub straight-outside : locationOf straight (place (pos 11) (pos 0)) ≡ OutsideOfConvexHull 7
 
 pub rows : Rows
-unfolding halved verticesA edgesA facesA from crossOf dotOf norm2Of side lifted circle onOpenSegment linked linksBroken chartRefusal locationOf
+unfolding straight verticesA edgesA facesA from crossOf dotOf norm2Of side lifted circle onOpenSegment linked linksBroken chartRefusal locationOf
 rows =
     record {
       corner = refl;
@@ -74,7 +67,7 @@ rows =
       past-the-end = refl;
       before-the-start = refl;
       off-the-grid = refl;
-      halved-accepted = refl;
+      straight-accepted = refl;
       middle = refl;
       first-half = refl;
       second-half = refl;
@@ -82,7 +75,7 @@ rows =
       between-faces = refl;
       first-face = refl;
       second-face = refl;
-      halved-rim = refl;
-      halved-beyond = refl;
-      halved-outside = refl;
+      straight-rim = refl;
+      straight-beyond = refl;
+      straight-outside = refl;
     }

@@ -36,10 +36,10 @@ use Rattle.triangle.specs.TriangleA.{fileA, verticesA, edgesA, facesA}
 abbrev with-bits : ℕ → ℕ → Weighted
 with-bits v n = record { vertex = v; weight = ofBits binary64 n }
 
-abbrev place : ℤ → ℤ → Place
+abbrev pub place : ℤ → ℤ → Place
 place x y = record { x = x; y = y }
 
-abbrev chartA : Chart
+abbrev pub chartA : Chart
 chartA = chartOf verticesA edgesA facesA
 
 pub record Rows : Type 0 where
