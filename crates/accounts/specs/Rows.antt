@@ -33,9 +33,9 @@ history = Bend 0 5 ∷ Bend 1 9 ∷ Splice 0 ∷ Bend 0 7 ∷ Refused 14 ∷ Ben
 abbrev pub hundred : Queries
 hundred chart method place = Answer.value (ofBits binary64 0x4059_0000_0000_0000)
 
--- a broken turn for every load
-abbrev pub broken : Queries
-broken chart method place = Answer.turnedDown 15
+-- outside for every load
+abbrev pub outside : Queries
+outside chart method place = Answer.turnedDown 14
 
 -- a bend and a splice of section 0
 abbrev pub bend : Entry
@@ -102,8 +102,9 @@ pub record AccountRows : Type 0 where
   pub off-grid : rule (pos 1) (pos 0) (pos 10001) (pos 3) (pos 3) ≡ Refused 13
   pub off-below : rule (pos 1) (pos 0) (pos 2) (negsuc 10000) (pos 3) ≡ Refused 13
   pub grid-ends : rule (pos 1) (pos 0) (pos 10000) (negsuc 9999) (pos 3) ≡ Bend 0 100
-  -- 15: "for natural weights, a broken turn"
-  pub broken-turn : entryRuling broken 2 [] (record { kind = pos 1; section = pos 0; x = pos 2; y = pos 3; method = pos 2 }) ≡ Refused 15
+  -- 14: "outside the hull"; a splice is not located
+  pub bend-outside : entryRuling outside 2 [] bend ≡ Refused 14
+  pub splice-outside : entryRuling outside 2 [] splice ≡ Splice 0
   -- of a history: section 0 since its splice, section 1 from the start, all charges
   pub since-splice : wearSum 0 history ≡ 7 + 3
   pub bends-since : bendCount 0 history ≡ 1 + 1
@@ -149,7 +150,8 @@ account-rows =
       off-grid = refl;
       off-below = refl;
       grid-ends = refl;
-      broken-turn = refl;
+      bend-outside = refl;
+      splice-outside = refl;
       since-splice = refl;
       bends-since = refl;
       from-start = refl;

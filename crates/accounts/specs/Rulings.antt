@@ -27,7 +27,7 @@ Queries = List ℕ → ℤ → Place → Answer
 abbrev pub charged : ℕ → Float → Ruling
 charged i v = chargeCase (Bend i) Refused (chargeOf v)
 
--- what the queries say of a bend: 14 or 15, or the value, which 16 may meet
+-- what the queries say of a bend: 14, or the value, which 16 may meet
 abbrev pub bendRuling : ℕ → Answer → Ruling
 bendRuling i (Answer.value v) = charged i v
 bendRuling i (Answer.turnedDown k) = Refused k

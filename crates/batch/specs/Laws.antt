@@ -11,7 +11,7 @@ use Rattle.geometry.specs.Plane.{offGrid}
 use Rattle.chart.specs.Chart.{Chart}
 use Rattle.chart.specs.Tables.{unsigned}
 use Rattle.ranges.specs.Ranges.{notBelow}
-use Rattle.values.specs.Value.{Answer, methodOf, locatedValue, valueOn, UpTo15, value-up-to-15, value-located}
+use Rattle.values.specs.Value.{Answer, methodOf, locatedValue, valueOn, UpTo14, value-up-to-14, value-located}
 use Rattle.charge.specs.Charging.{offScale}
 use Rattle.book.specs.declared.Book.{Book}
 use Rattle.book.specs.Books.{totalWear, countOf, ValidBook}
@@ -32,7 +32,7 @@ known-kind true b u n e f = absurd (true≢false f)
 known-kind false true u n e f = e
 known-kind false false u n e f = absurd (true≢false e)
 
-known-method : (s : ℕ) (e : Entry) → unknown s e ≡ false → isSplice (e .kind) ≡ false → eqb (methodOf (e .method)) 0 ≡ false
+pub known-method : (s : ℕ) (e : Entry) → unknown s e ≡ false → isSplice (e .kind) ≡ false → eqb (methodOf (e .method)) 0 ≡ false
 known-method s e u f =
     known-kind (isSplice (e .kind)) (isBend (e .kind)) (untidy (e .x) (e .y) (e .method)) (eqb (methodOf (e .method)) 0)
     (or-false (notBelow s (e .section)) (unknownKind (e .kind) (e .x) (e .y) (e .method)) u .1) f
@@ -66,7 +66,7 @@ module _ (c : Chart) (s : ℕ) (e : Entry) where
       go true h = rw h (omega arith)
       go false h = rw h tt
 
-  bend-up-to-17 : (i : ℕ) (a : Answer) → UpTo15 a → UpTo17 (bendRuling i a)
+  bend-up-to-17 : (i : ℕ) (a : Answer) → UpTo14 a → UpTo17 (bendRuling i a)
   bend-up-to-17 i (Answer.value v) f = charged-up-to-17 i v
   bend-up-to-17 i (Answer.turnedDown k) f = omega arith
 
@@ -82,7 +82,7 @@ module _ (c : Chart) (s : ℕ) (e : Entry) where
       let w = cond (isSplice (e .kind)) (Splice i) v in
       cond-up-to-17 (unknown s e) (Refused 12) (cond (offGrid (placeIn e)) (Refused 13) w) (omega arith)
       (cond-up-to-17 (offGrid (placeIn e)) (Refused 13) w (omega arith)
-      (cond-up-to-17 (isSplice (e .kind)) (Splice i) v tt (bend-up-to-17 i (valueOn (methodOf (e .method)) c (placeIn e)) (value-up-to-15 (methodOf (e .method)) c (placeIn e)))))
+      (cond-up-to-17 (isSplice (e .kind)) (Splice i) v tt (bend-up-to-17 i (valueOn (methodOf (e .method)) c (placeIn e)) (value-up-to-14 (methodOf (e .method)) c (placeIn e)))))
 
 -- ---- the verdict
 with17-up-to-17 : (total : ℕ) (count : ℕ → ℕ) (r : Ruling) → UpTo17 r → UpTo17 (with17 total count r)

@@ -20,9 +20,10 @@ use Rattle.chart.specs.Chart.{Chart, partner, partner-twice, partner-in, outer}
 use Rattle.sound.specs.Sound.{Sound, Inner, start, end, apex}
 use Rattle.locate.specs.Location.{onEdge}
 use Rattle.flips.specs.Search.{Found, found, inCircle, shouldFlip, opening, inspectFlips, inspectAll, openedCount}
-use Rattle.neighbors.specs.Neighbors.{finished, innerEdgeNeighbors, partOfConvexHull}
+use Rattle.neighbors.specs.Neighbors.{finished, edgeSearch, innerEdgeNeighbors, partOfConvexHull}
 use Rattle.flips.specs.Laws.{e1-in, e2-in, all-open}
-use Rattle.neighbors.specs.Counting.{All, nil, cons, search-leads, stay-open, edge-length}
+use Rattle.neighbors.specs.Each.{done, also}
+use Rattle.neighbors.specs.Counting.{All, search-leads, stay-open, edge-length}
 
 module _ (c : Chart) (a : Sound c) where
   -- a load on the open segment of an inner half-edge is inside its face's circle
@@ -40,7 +41,7 @@ module _ (c : Chart) (a : Sound c) where
 
   -- ---- an edge lies between two faces
   -- the half-edges of h's face are h, next and prev
-  same-face : (h g : ℕ) → Inner c h → Inner c g → c .face g ≡ c .face h → (g ≡ h) ⊎ ((g ≡ c .next h) ⊎ (g ≡ c .prev h))
+  pub same-face : (h g : ℕ) → Inner c h → Inner c g → c .face g ≡ c .face h → (g ≡ h) ⊎ ((g ≡ c .next h) ⊎ (g ≡ c .prev h))
   same-face h g i j e = pick (a .of-face h i) (rw e at (a .of-face g j))
     where
       A : ℕ
@@ -84,25 +85,21 @@ module _ (c : Chart) (a : Sound c) where
   -- after an inner half-edge whose face passes the circle test is inspected, that face is opened
   opened-after : (q : Place) (h : ℕ) (s : List ℕ) (w : Found) → All c (h ∷ s) → outer c h ≡ false → inCircle c q h ≡ true → inspectAll c q (h ∷ s) w .opened (c .face h) ≡ true
   unfolding shouldFlip add
-  opened-after q h s w (cons l t) o e =
-      ⊎-elim (λ (y : w .opened (c .face h) ≡ true). stay-open c q (a .range) (search-leads c q (a .range) (h ∷ s) w (cons l t)) (c .face h) y)
+  opened-after q h s w (also l t) o e =
+      ⊎-elim (λ (y : w .opened (c .face h) ≡ true). stay-open c q (a .range) (search-leads c q (a .range) (h ∷ s) w (also l t)) (c .face h) y)
       (λ (y : w .opened (c .face h) ≡ false).
       let flips : shouldFlip c q (w .opened) h ≡ true = simp (o, y, e) in
       rw (all-open c q (a .range) h s w l flips)
       (stay-open c q (a .range)
-      (search-leads c q (a .range) (partner (c .prev h) ∷ partner (c .next h) ∷ s) (opening c h w) (cons (e2-in c q (a .range) h l) (cons (e1-in c q (a .range) h l) t)))
+      (search-leads c q (a .range) (partner (c .prev h) ∷ partner (c .next h) ∷ s) (opening c h w) (also (e2-in c q (a .range) h l) (also (e1-in c q (a .range) h l) t)))
       (c .face h) (ap (λ (b : Bool). b || w .opened (c .face h)) (eq-eqb (c .face h) (c .face h) refl))))
       (cases (w .opened (c .face h)))
-
-  -- the search from h and its partner
-  abbrev both : Place → ℕ → Found
-  both q h = inspectAll c q (h ∷ partner h ∷ []) (found none [])
 
   pub record Crossed (q : Place) (h : ℕ) : Type 0 where
     pub tested : shouldFlip c q none h ≡ true
     pub partner-tested : inCircle c q (partner h) ≡ true
-    pub opened : both q h .opened (c .face h) ≡ true
-    pub partner-opened : both q h .opened (c .face (partner h)) ≡ true
+    pub opened : edgeSearch c q h .opened (c .face h) ≡ true
+    pub partner-opened : edgeSearch c q h .opened (c .face (partner h)) ≡ true
     pub two : 2 ≤ innerEdgeNeighbors c q h .opened
     pub four : 4 ≤ length (innerEdgeNeighbors c q h .edges)
 
@@ -116,9 +113,9 @@ module _ (c : Chart) (a : Sound c) where
       let j : Inner c p = (m, eqb-false (c .face p) 0 (o .1)) in
       let t : inCircle c q h ≡ true = edge-circle q h i e in
       let u : inCircle c q p ≡ true = edge-circle q p j (partner-edge q h e) in
-      let x : both q h .opened (c .face h) ≡ true = opened-after q h (p ∷ []) (found none []) (cons l (cons m nil)) (o .0) t in
-      let y : both q h .opened (c .face p) ≡ true = opened-after q p [] (inspectFlips c q h (found none [])) (cons m nil) (o .1) u in
-      let z : 2 ≤ openedCount c (both q h .opened) = count-two (c .faces) (c .face h) (c .face p) (both q h .opened) (a .range .face-numbers h l) (a .range .face-numbers p m) (faces-differ h i j) x y in
+      let x : edgeSearch c q h .opened (c .face h) ≡ true = opened-after q h (p ∷ []) (found none []) (also l (also m done)) (o .0) t in
+      let y : edgeSearch c q h .opened (c .face p) ≡ true = opened-after q p [] (inspectFlips c q h (found none [])) (also m done) (o .1) u in
+      let z : 2 ≤ openedCount c (edgeSearch c q h .opened) = count-two (c .faces) (c .face h) (c .face p) (edgeSearch c q h .opened) (a .range .face-numbers h l) (a .range .face-numbers p m) (faces-differ h i j) x y in
       record {
         tested = simp (o .0, t);
         partner-tested = u;

@@ -3,7 +3,6 @@
 use mathlib.Core.Path.{_≡_, sym, ap, _∙_}
 use mathlib.Core.Logic.{⊎-elim}
 use mathlib.Core.Bool.{Bool, true, false, _||_}
-use mathlib.Core.List.{[], _∷_}
 use Prim.Native.Nat.{ℕ, zero, suc, _+_, _≤_, _<_}
 use native.Mathlib.Omega.{arith}
 use lib.Dec.{eqb}
@@ -12,13 +11,12 @@ use borrow.Author.Tests.{eqb-true, ne-eqb}
 use Rattle.faceset.specs.Set.{none, add, countBelow}
 use Rattle.faceset.specs.Laws.{cases, count-none, count-new, count-le}
 use Rattle.geometry.specs.declared.Place.{Place}
-use Rattle.chart.specs.Chart.{Chart, partner}
+use Rattle.chart.specs.Chart.{Chart}
 use Rattle.accepted.specs.Accepted.{Accepted}
 use Rattle.locate.specs.declared.Location.{Location}
 use Rattle.locate.specs.declared.Location.the-variants.{OnVertex, OnEdge, OnFace, OutsideOfConvexHull}
 use Rattle.locate.specs.Laws.{Holds}
-use Rattle.flips.specs.Search.{found, inspectAll}
-use Rattle.neighbors.specs.Neighbors.{starts, finished, faceNeighbors, innerEdgeNeighbors, edgeNeighbors, partOfConvexHull, neighborsOf}
+use Rattle.neighbors.specs.Neighbors.{finished, faceSearch, edgeSearch, faceNeighbors, innerEdgeNeighbors, edgeNeighbors, partOfConvexHull, neighborsOf}
 use Rattle.flips.specs.Stack.{Roomy}
 use Rattle.neighbors.specs.Counting.{face-length, edge-length}
 
@@ -83,11 +81,11 @@ module _ (c : Chart) (a : Accepted c) where
   -- no more faces are opened than there are
   face-most : (q : Place) (f : ℕ) → faceNeighbors c q f .opened ≤ c .faces
   unfolding faceNeighbors finished
-  face-most q f = count-le (c .faces) (inspectAll c q (starts c f) (found (add f none) []) .opened)
+  face-most q f = count-le (c .faces) (faceSearch c q f .opened)
 
   edge-most : (q : Place) (h : ℕ) → innerEdgeNeighbors c q h .opened ≤ c .faces
   unfolding innerEdgeNeighbors finished
-  edge-most q h = count-le (c .faces) (inspectAll c q (h ∷ partner h ∷ []) (found none []) .opened)
+  edge-most q h = count-le (c .faces) (edgeSearch c q h .opened)
 
   -- a list has never more edges than the chart has half-edges
   pub list-within : (q : Place) (l : Location) → Holds c q l → length (neighborsOf c q l .edges) ≤ c .halfEdges

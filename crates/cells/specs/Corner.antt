@@ -34,7 +34,7 @@ sq-pos a q n = pick (sign-of (dots a a q))
     pick (inr (inr h)) = h
 
 -- of two places that are apart one is not q
-not-both-zero : (a b q : Place) → Apart a b → Is (ze (sg (dots a a q)) & ze (sg (dots b b q)) ⇒ fail)
+pub not-both-zero : (a b q : Place) → Apart a b → Is (ze (sg (dots a a q)) & ze (sg (dots b b q)) ⇒ fail)
 unfolding ev
 not-both-zero a b q n = pick (sign-of (dots a a q)) (sign-of (dots b b q))
   where

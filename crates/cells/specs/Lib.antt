@@ -4,3 +4,4 @@ pub mod Rays
 pub mod Window
 pub mod Line
 pub mod Tilt
+pub mod Fan

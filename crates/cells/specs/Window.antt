@@ -6,10 +6,10 @@ use Rattle.whole.specs.Poly.{var, con, _⊕_, _⊖_, _⊗_, env, agree, solve! 
 use Rattle.geometry.specs.declared.Place.{Place}
 use Rattle.geometry.specs.Laws.{circle-power}
 use Rattle.geometry.specs.Plane.{crossOf, dotOf, norm2Of, side, lifted, circle}
-use Rattle.signs.specs.Signs.{below, nil, above, sg, flip, _⊙_, up, lo, hi, _⇒_, ev, Is, Pos, Neg, Low, fire, test3, test6, every3, every6, bal, bal-mul3, lin}
+use Rattle.signs.specs.Signs.{below, nil, above, sg, flip, _⊙_, up, ze, lo, hi, fail, _⇒_, _&_, ev, Is, Pos, Neg, Low, High, fire, test3, test5, test6, every3, every5, every6, bal, bal-mul3, lin}
 use Rattle.signs.specs.Order.{pos-sg, neg-sg, neg-lo, neg-hi, neg-pos, neg-neg}
 use Rattle.cells.specs.Points.{dots, oE, dE, jE, back}
-use Rattle.cells.specs.Corner.{sq-high}
+use Rattle.cells.specs.Corner.{Apart, sq-high, not-both-zero}
 
 -- the circle by the sides at b
 pub circle-at-b : (a b c q : Place) → circle a b c q ≡ side b c q *ℤ dots a a b +ℤ side a b q *ℤ dots c c b -ℤ side a b c *ℤ dots q q b
@@ -30,6 +30,25 @@ pencil a b c q z =
     ap (λ (x : ℤ). side a b q *ℤ x) (circle-power a b c z) ∙ pencil6 (side a b q) (side a b z) (side a b c) (dots a b q) (dots a b z) (dots a b c)
     ∙ ap (λ (x : ℤ). side a b c *ℤ x +ℤ side a b z *ℤ (side a b q *ℤ dots a b c -ℤ side a b c *ℤ dots a b q)) (sym (circle-power a b q z))
     ∙ ap (λ (x : ℤ). side a b c *ℤ circle a b q z +ℤ side a b z *ℤ x) (sym (circle-power a b c q))
+
+-- ---- q strictly left of two sides, and left of or on the third, is strictly inside the circle
+circle-parts : (a b c q : Place) → circle a b c q ≡ side b c q *ℤ dots a a q +ℤ side c a q *ℤ dots b b q +ℤ side a b q *ℤ dots c c q
+unfolding side dotOf circle lifted norm2Of crossOf agree
+circle-parts a b c q =
+    solve! (env (a .x ∷ a .y ∷ b .x ∷ b .y ∷ c .x ∷ c .y ∷ q .x ∷ q .y ∷ []))
+    (jE 0 1 2 3)
+    (oE 1 2 3 ⊗ dE 0 0 3 ⊕ oE 2 0 3 ⊗ dE 1 1 3 ⊕ oE 0 1 3 ⊗ dE 2 2 3) tt
+
+pub inside-circle : (a b c q : Place) → Apart a b → High (side a b q) → Pos (side b c q) → Pos (side c a q) → Pos (circle a b c q)
+unfolding test5 _⊙_ flip
+inside-circle a b c q n h k l =
+    let s : Is (bal (flip (sg (circle a b c q))) (sg (dots a a q)) (sg (dots b b q)) (sg (side a b q) ⊙ sg (dots c c q))) =
+    rw (pos-sg k, pos-sg l) at (lin (circle a b c q) (side b c q) (dots a a q) (side c a q) (dots b b q) (side a b q) (dots c c q) (circle-parts a b c q)) in
+    record {
+      is =
+          fire (fire (fire (fire (fire (fire (every5 (λ x u v w t. bal (flip x) u v (w ⊙ t) ⇒ hi u ⇒ hi v ⇒ hi w ⇒ hi t ⇒ (ze u & ze v ⇒ fail) ⇒ up x) tt
+          (sg (circle a b c q)) (sg (dots a a q)) (sg (dots b b q)) (sg (side a b q)) (sg (dots c c q))) s) (sq-high a q .is)) (sq-high b q .is)) (h .is)) (sq-high c q .is)) (not-both-zero a b q n);
+    }
 
 -- ---- q on or right of two sides is not strictly inside the circle
 minus : (a x b y c z j : ℤ) → j ≡ a *ℤ x +ℤ b *ℤ y -ℤ c *ℤ z → j ≡ a *ℤ x +ℤ b *ℤ y +ℤ c *ℤ negℤ z

@@ -1,5 +1,4 @@
 pub mod Queries
 pub mod Account
 pub mod Demand
-pub mod Numbers
 pub mod Writing

@@ -165,7 +165,7 @@ module _ (c : Chart) (snd : Sound c) (q : Place) where
       pick (inr (inr d)) = once (subst Held d e)
 
   -- ---- what has a home is inside the rim
-  held-strict : (k : ℕ) → Held k → (h : ℕ) → h < c .halfEdges → c .face h ≡ 0 → Neg (sd h)
+  pub held-strict : (k : ℕ) → Held k → (h : ℕ) → h < c .halfEdges → c .face h ≡ 0 → Neg (sd h)
   held-strict k d h l o = R.inside c snd k h q (d .there) l (d .inner) o (d .first) (d .second) (d .third)
 
   open-low : (k : ℕ) → Open k → Inside
@@ -178,7 +178,7 @@ module _ (c : Chart) (snd : Sound c) (q : Place) where
       pick (no i) = by k e i
       pick (yes z) = by (partner k) (open-twin k e) (R.inner-side c snd k (e .there) z)
 
-  open-strict : (k : ℕ) → Open k → (c .face k ≡ 0 → ⊥) → (c .face (partner k) ≡ 0 → ⊥) → (h : ℕ) → h < c .halfEdges → c .face h ≡ 0 → Neg (sd h)
+  pub open-strict : (k : ℕ) → Open k → (c .face k ≡ 0 → ⊥) → (c .face (partner k) ≡ 0 → ⊥) → (h : ℕ) → h < c .halfEdges → c .face h ≡ 0 → Neg (sd h)
   open-strict k e i j h l o = R.amid c snd k h q (e .there) l i j o (e .on) (e .between)
 
   -- ---- a vertex is no other home

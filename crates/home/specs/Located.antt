@@ -145,3 +145,16 @@ module _ (c : Chart) (q : Place) (snd : Sound c) where
       let f1 : some (inFace c q) (c .faces) ≡ true = some-at (inFace c q) (c .faces) f l e in
       let f0 : first (inFace c q) (c .faces) ≡ f = hit (inFace c q) (c .faces) f l e (λ g m a. hm .one-face g f m l a e) in
       rw (v0, e0, f1) (ap OnFace f0)
+
+  -- and a load on an open edge has this edge as its location
+  pub edge-location : (h : ℕ) → h < c .halfEdges → onEdge c q h ≡ true → (k : ℕ) × (locationOf c q ≡ OnEdge k) × ((k ≡ h) ⊎ (k ≡ partner h))
+  unfolding locationOf
+  edge-location h l e =
+      let u = even-edge h (edge-to c q h l e) in
+      let hm = housed (homes-inside (inr (inl u))) in
+      let v0 : some (atVertex c q) (c .vertices) ≡ false = some-none (atVertex c q) (c .vertices) (λ v m. is-false (atVertex c q v) (λ a. hm .vertex-edge v h m l a e)) in
+      let e1 : some (onEvenEdge c q) (c .halfEdges) ≡ true = some-at (onEvenEdge c q) (c .halfEdges) (u .0) (u .1) (u .2) in
+      let k = first (onEvenEdge c q) (c .halfEdges) in
+      let kl : k < c .halfEdges = ltb-true k (c .halfEdges) e1 in
+      let ke = and-true (even k) (onEdge c q k) (first-found (onEvenEdge c q) (c .halfEdges) kl) in
+      (k, rw (v0, e1), hm .one-edge h k l kl e (ke .1))

@@ -1,4 +1,5 @@
--- 02, CR 2, of the batch's answers: what stands in the answer slice for a bend by method 1 is its charge, or 2,000,000 plus 12, 13, 14, 16 or 17. Assumes nothing.
+-- 02, CR 2 and CR 11, of the batch's answers: what stands in the answer slice for an entry of any kind is below 2,000,000, or 2,000,000 plus 12, 13, 14, 16 or 17.
+-- Assumes nothing.
 use mathlib.Core.Path.{_≡_, refl, sym, subst, ap, _∙_}
 use mathlib.Core.Logic.{_⊎_, inl, inr}
 use mathlib.Core.Bool.{Bool, true, false, cond}
@@ -7,6 +8,7 @@ use Prim.Native.Nat.{ℕ, zero, suc, _+_, _*_, _/_, _<_}
 use native.Mathlib.Omega.{arith}
 use lib.IntN.{ℤ}
 use lib.ListN.{length, getD, List·getD-append}
+use Rattle.whole.specs.Among.{among}
 use Rattle.whole.specs.Bools.{never}
 use Rattle.reading.specs.Reading.{chartRefusalOf}
 use Rattle.accepted.specs.Bytes.{bytes-accepted}
@@ -20,15 +22,16 @@ use Rattle.entries.specs.Ruling.{RefusedEntry, answerOf}
 use Rattle.accounts.specs.Batch.{bookChange, bookVerdict, answersFrom, overlay, badSlices, batchRefusal, Outcome, outcome, byRefusal, batchOf}
 use Rattle.accounts.specs.Demand3.{entries-count, answers-length}
 use Rattle.estivolh.specs.Account.{queries}
-use Rattle.loads.specs.MethodOne.{ByMethodOne, OneOf, BendOrOneOf, method-one}
+use Rattle.refusals.specs.Entries.{ofEntry, OnlyBy}
+use Rattle.refusals.specs.Refusals.{entry-refused}
 
 -- accepted, or refused with one of the five
 abbrev pub AcceptedOrOneOf : ℕ → Type 0
-AcceptedOrOneOf n = (n < RefusedEntry) ⊎ ((k : ℕ) × OneOf k × (n ≡ RefusedEntry + k))
+AcceptedOrOneOf n = (n < RefusedEntry) ⊎ ((k : ℕ) × (among ofEntry k ≡ true) × (n ≡ RefusedEntry + k))
 
-by-ruling : (r : Ruling) → BendOrOneOf r → AcceptedOrOneOf (answerOf r)
+by-ruling : (r : Ruling) → OnlyBy ofEntry r → AcceptedOrOneOf (answerOf r)
 by-ruling (Bend i n) h = inl (omega arith)
-by-ruling (Splice i) h = absurd h
+by-ruling (Splice i) h = inl (omega arith)
 by-ruling (Refused k) h = inr (k, h, refl)
 
 -- ---- the answer to an entry is that of a verdict on it
@@ -54,16 +57,14 @@ worked zero b chart es lent left r m z = (refl, ap (λ (o : Outcome). o .answers
 worked (suc n) b chart es lent left r m z = let e : suc n ≡ 0 = sym (ap (λ (o : Outcome). o .refusal) m) ∙ z in let o : ⊥ = omega arith in absurd o
 
 -- of every batch that was made: `made` is the contract of `estivolh::batch`, word for word. Entry k stands at 5 k
-pub answers-one : (b : Book) (chart : List ℕ) (es : List ℤ) (lent : List ℕ) (r : Returned) (left : List ℕ) (made : outcome r left ≡ batchOf queries b chart es lent) → r .refusal ≡ 0
-    → (k : ℕ) → k < length es / EntryWidth → ByMethodOne (entryAt es (k * EntryWidth)) → AcceptedOrOneOf (getD left k 0)
-answers-one b chart es lent r left made z k l one =
+pub answers-only : (b : Book) (chart : List ℕ) (es : List ℤ) (lent : List ℕ) (r : Returned) (left : List ℕ) (made : outcome r left ≡ batchOf queries b chart es lent) → r .refusal ≡ 0
+    → (k : ℕ) → k < length es / EntryWidth → AcceptedOrOneOf (getD left k 0)
+answers-only b chart es lent r left made z k l =
     let w = worked (batchRefusal b chart (length es) (length lent)) b chart es lent left r made z in
     let a = bytes-accepted chart (pick (badBook b) (badSlices (length es) (length lent)) (chartRefusalOf chart) (w .0)) in
     let n = length es / EntryWidth in
     let given = answersFrom queries chart b (entriesOf es) in
     let m : k < length given = subst (λ (j : ℕ). k < j) (sym (answers-length queries chart (entriesOf es) b ∙ entries-count es n 0)) l in
-    let j : 0 + k * EntryWidth ≡ k * EntryWidth = omega arith in
-    let one' : ByMethodOne (entryAt es (0 + k * EntryWidth)) = subst (λ (i : ℕ). ByMethodOne (entryAt es i)) (sym j) one in
     subst AcceptedOrOneOf (sym (ap (λ (s : List ℕ). getD s k 0) (w .1) ∙ List·getD-append given _ 0 k m))
     (answer-at chart es AcceptedOrOneOf n 0 k b l
-    (λ d. by-ruling (bookVerdict queries chart d (entryAt es (0 + k * EntryWidth))) (method-one chart (a .vs) (a .es) (a .fs) (a .tables) (d .sections) (entryAt es (0 + k * EntryWidth)) one' .no-other (totalWear d) (countOf d))))
+    (λ d. by-ruling (bookVerdict queries chart d (entryAt es (0 + k * EntryWidth))) (entry-refused chart (a .vs) (a .es) (a .fs) (a .tables) (d .sections) (entryAt es (0 + k * EntryWidth)) (totalWear d) (countOf d))))

@@ -1,8 +1,10 @@
--- 02, CR 2, "15 is left for a broken turn only": what the calls for a load on the grid of an accepted chart answer. Off the grid all give 13. Assumes nothing.
+-- 02, CR 2 and CR 11: a load on the grid of an accepted chart is answered by every call, by every method, unless it is outside, where all but the location give
+-- 14. Off the grid all give 13. Assumes nothing.
 use mathlib.Core.Path.{_≡_, refl, sym, ap, _∙_}
-use mathlib.Core.Bool.{true, false, false≢true}
+use mathlib.Core.Bool.{Bool, true, false, cond, false≢true}
 use mathlib.Core.List.{List}
 use Prim.Native.Nat.{ℕ}
+use lib.Dec.{eqb}
 use lib.IntN.{ℤ}
 use lib.Ieee.{Float}
 use Rattle.whole.specs.First.{none-at}
@@ -19,12 +21,13 @@ use Rattle.locate.specs.Location.{leftOfOuter, locationOf}
 use Rattle.home.specs.Located.{leftOfRim, InsideRim, outside-left, left-outside}
 use Rattle.weights.specs.Barycentric.{Weights as W, Weighted, weighTwo, weighThree}
 use Rattle.values.specs.Located.{placeRefusal, barycentricAt}
-use Rattle.values.specs.Value.{Answer, valueFrom, locatedValue, valueOn, value-located}
+use Rattle.neighbors.specs.Neighbors.{neighborsOf}
+use Rattle.values.specs.Value.{Answer, barycentricValue, naturalValue, valueAt, valueFrom, locatedValue, valueOn, value-found, value-located}
 use Rattle.values.specs.Value.Answer.{value, turnedDown}
 use Rattle.query.specs.Location.{locateOn}
 use Rattle.query.specs.Location.Located.{at}
 use Rattle.query.specs.Weights.{barycentricOn}
-use Rattle.query.specs.Natural.{edgesRefused, edgesAt, edgesFrom, edgesOn}
+use Rattle.query.specs.Natural.{edgesRefused, edgesAt, edgesFrom, edgesOn, edges-found, sharesRefused, sharesAt, sharesFrom, sharesOn, shares-found}
 
 pub record Answered (c : Chart) (q : Place) : Type 0 where
   -- the location is never refused
@@ -32,11 +35,13 @@ pub record Answered (c : Chart) (q : Place) : Type 0 where
   -- for a load strictly left of no outer half-edge the others are not refused either
   pub weighed : offGrid q ≡ false → InsideRim c q → (l : List Weighted) × (barycentricOn c q ≡ W.weights l)
   pub listed : offGrid q ≡ false → InsideRim c q → (lent : List ℕ) → edgesOn c q lent ≡ edgesAt c q (locationOf c q) lent
-  pub valued : offGrid q ≡ false → InsideRim c q → (v : Float) × (valueOn 1 c q ≡ value v)
+  pub shared : offGrid q ≡ false → InsideRim c q → (os : List ℕ) (ws : List Float) → sharesOn c q os ws ≡ sharesAt c q (locationOf c q) os ws
+  pub valued : offGrid q ≡ false → InsideRim c q → (m : ℕ) → eqb m 0 ≡ false → (v : Float) × (valueOn m c q ≡ value v)
   -- for every other they are refused with 14
   pub weighed-outside : offGrid q ≡ false → leftOfRim c q ≡ true → barycentricOn c q ≡ W.turnedDown 14
   pub listed-outside : offGrid q ≡ false → leftOfRim c q ≡ true → (lent : List ℕ) → edgesOn c q lent ≡ edgesRefused 14 lent
-  pub valued-outside : offGrid q ≡ false → leftOfRim c q ≡ true → valueOn 1 c q ≡ turnedDown 14
+  pub shared-outside : offGrid q ≡ false → leftOfRim c q ≡ true → (os : List ℕ) (ws : List Float) → sharesOn c q os ws ≡ sharesRefused 14 os ws
+  pub valued-outside : offGrid q ≡ false → leftOfRim c q ≡ true → (m : ℕ) → eqb m 0 ≡ false → valueOn m c q ≡ turnedDown 14
 
 -- ---- an answer that is no refusal
 abbrev IsValue : Answer → Type 0
@@ -55,29 +60,46 @@ weights-of : (w : W) → IsWeights w → (l : List Weighted) × (w ≡ W.weights
 weights-of (W.weights l) h = (l, refl)
 weights-of (W.turnedDown k) h = absurd h
 
-module _ (c : Chart) (snd : Sound c) (q : Place) where
-  -- ---- at a location that is not outside
-  at-place : (l : Location) → ((n : ℕ) → l ≡ OutsideOfConvexHull n → ⊥) → IsValue (valueFrom (placeRefusal l) 1 c q l) × IsWeights (barycentricAt c q l) × ((lent : List ℕ) → edgesFrom (placeRefusal l) c q l lent ≡ edgesAt c q l lent)
-  unfolding weighTwo weighThree
-  at-place (OnVertex v) h = (tt, tt, λ lent. refl)
-  at-place (OnEdge e) h = (tt, tt, λ lent. refl)
-  at-place (OnFace f) h = (tt, tt, λ lent. refl)
-  at-place (OutsideOfConvexHull n) h = absurd (h n refl)
+-- ---- at a location that is not outside
+weighed-at : (c : Chart) (w : W) → IsWeights w → IsValue (barycentricValue c w)
+weighed-at c (W.weights l) h = tt
+weighed-at c (W.turnedDown k) h = absurd h
 
+value-at : (m : ℕ) (c : Chart) (q : Place) (l : Location) → IsWeights (barycentricAt c q l) → IsValue (valueAt m c q l)
+value-at m c q l h = choose (eqb m 1)
+  where
+    choose : (b : Bool) → IsValue (cond b (barycentricValue c (barycentricAt c q l)) (naturalValue m c q (neighborsOf c q l .edges)))
+    choose true = weighed-at c (barycentricAt c q l) h
+    choose false = tt
+
+record Found (c : Chart) (q : Place) (l : Location) : Type 0 where
+  pub weighs : IsWeights (barycentricAt c q l)
+  pub places : placeRefusal l ≡ 0
+
+found-at : (c : Chart) (q : Place) (l : Location) → ((n : ℕ) → l ≡ OutsideOfConvexHull n → ⊥) → Found c q l
+unfolding weighTwo weighThree
+found-at c q (OnVertex v) h = record { weighs = tt; places = refl }
+found-at c q (OnEdge e) h = record { weighs = tt; places = refl }
+found-at c q (OnFace f) h = record { weighs = tt; places = refl }
+found-at c q (OutsideOfConvexHull n) h = absurd (h n refl)
+
+module _ (c : Chart) (snd : Sound c) (q : Place) where
   module _ (inside : InsideRim c q) where
-    found : IsValue (valueFrom (placeRefusal (locationOf c q)) 1 c q (locationOf c q)) × IsWeights (barycentricAt c q (locationOf c q)) × ((lent : List ℕ) → edgesFrom (placeRefusal (locationOf c q)) c q (locationOf c q) lent ≡ edgesAt c q (locationOf c q) lent)
-    found = at-place (locationOf c q) bar
+    found : Found c q (locationOf c q)
+    found = found-at c q (locationOf c q) bar
       where
         bar : (n : ℕ) → locationOf c q ≡ OutsideOfConvexHull n → ⊥
         bar n w = let o = outside-left c q snd n w in false≢true (sym (none-at (leftOfOuter c q) (c .halfEdges) inside n (o .0)) ∙ o .1)
 
-    pub value-inside : (v : Float) × (locatedValue 1 c q ≡ value v)
+    pub value-inside : (m : ℕ) → (v : Float) × (locatedValue m c q ≡ value v)
     unfolding locatedValue
-    value-inside = value-of (valueFrom (placeRefusal (locationOf c q)) 1 c q (locationOf c q)) (found .0)
+    value-inside m =
+        let r = value-of (valueAt m c q (locationOf c q)) (value-at m c q (locationOf c q) (found .weighs)) in
+        (r .0, value-found (placeRefusal (locationOf c q)) m c q (locationOf c q) (found .places) ∙ r .1)
 
-  pub value-outside : leftOfRim c q ≡ true → locatedValue 1 c q ≡ turnedDown 14
+  pub value-outside : (m : ℕ) → leftOfRim c q ≡ true → locatedValue m c q ≡ turnedDown 14
   unfolding locatedValue
-  value-outside e = ap (λ (l : Location). valueFrom (placeRefusal l) 1 c q l) (left-outside c q snd e)
+  value-outside m e = ap (λ (l : Location). valueFrom (placeRefusal l) m c q l) (left-outside c q snd e)
 
   module _ (on : offGrid q ≡ false) where
     on-grid-location : locateOn c q ≡ at (locationOf c q)
@@ -92,16 +114,22 @@ module _ (c : Chart) (snd : Sound c) (q : Place) where
     unfolding edgesOn
     on-grid-edges lent = rw on
 
+    on-grid-shares : (os : List ℕ) (ws : List Float) → sharesOn c q os ws ≡ sharesFrom (placeRefusal (locationOf c q)) c q (locationOf c q) os ws
+    unfolding sharesOn
+    on-grid-shares os ws = rw on
+
   all-answered : Answered c q
   all-answered =
       record {
         located = on-grid-location;
-        weighed = λ on i. let r = weights-of (barycentricAt c q (locationOf c q)) (found i .1) in (r .0, on-grid-weights on ∙ r .1);
-        listed = λ on i lent. on-grid-edges on lent ∙ found i .2 lent;
-        valued = λ on i. let r = value-inside i in (r .0, value-located 1 c q refl on ∙ r .1);
+        weighed = λ on i. let r = weights-of (barycentricAt c q (locationOf c q)) (found i .weighs) in (r .0, on-grid-weights on ∙ r .1);
+        listed = λ on i lent. on-grid-edges on lent ∙ edges-found (placeRefusal (locationOf c q)) c q (locationOf c q) lent (found i .places);
+        shared = λ on i os ws. on-grid-shares on os ws ∙ shares-found (placeRefusal (locationOf c q)) c q (locationOf c q) os ws (found i .places);
+        valued = λ on i m k. let r = value-inside i m in (r .0, value-located m c q k on ∙ r .1);
         weighed-outside = λ on o. on-grid-weights on ∙ ap (barycentricAt c q) (left-outside c q snd o);
         listed-outside = λ on o lent. on-grid-edges on lent ∙ ap (λ (l : Location). edgesFrom (placeRefusal l) c q l lent) (left-outside c q snd o);
-        valued-outside = λ on o. value-located 1 c q refl on ∙ value-outside o;
+        shared-outside = λ on o os ws. on-grid-shares on os ws ∙ ap (λ (l : Location). sharesFrom (placeRefusal l) c q l os ws) (left-outside c q snd o);
+        valued-outside = λ on o m k. value-located m c q k on ∙ value-outside m o;
       }
 
 pub answered : (s : List ℕ) (vs : List ℤ) (es fs : List ℕ) → chartIn s ≡ loaded vs es fs → (q : Place) → Answered (chartOf vs es fs) q

@@ -1,4 +1,5 @@
 pub mod Homes
 pub mod Calls
-pub mod MethodOne
+pub mod Bends
 pub mod Answers
+pub mod Sibson

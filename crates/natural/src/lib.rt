@@ -1,9 +1,7 @@
 // Natural neighbour weights from the list of natural neighbour edges (01, "Weights"; `get_natural_neighbor_weights`).
 use geometry::Place;
 use points::Point2;
-use turns::Area;
 ghost use mathlib.Core.Path.{_≡_};
-ghost use mathlib.Core.Bool.{true};
 ghost use mathlib.Core.List.{_++_, map};
 ghost use Prim.Native.Nat.{ℕ, _≤_, _<_};
 ghost use lib.ListN.{length, take, drop, getD};
@@ -12,7 +10,7 @@ ghost use Rattle.chart.specs.Limits.{MostHalfEdges};
 ghost use Rattle.chart.specs.Tables.{rows, originOf};
 ghost use Rattle.chart.specs.Chart.{chartOf, InRange};
 ghost use Rattle.points.specs.Floats.{_/f_};
-ghost use Rattle.natural.specs.Natural.{cellShares, twoShares, sharesOf, told, outcome, naturalWeightsOf, Listed};
+ghost use Rattle.natural.specs.Natural.{cellShares, twoShares, sharesOf, outcome, naturalWeightsOf, Listed};
 ghost use Rattle.natural.specs.Arrays.{cornerX, cornerY, Holds};
 
 // The insertion cell into the first elements of xs and ys.
@@ -51,7 +49,6 @@ fn divide_all(areas: &mut [f64], n: usize, total: f64)
 }
 
 // A turn about each neighbour, from the cell's corners in xs and ys. Corner i is last read at turn i, so area i takes the place of its x.
-// False where a turn is broken.
 fn turn_all(
     vertices: &[i64],
     edges: &[usize],
@@ -60,10 +57,10 @@ fn turn_all(
     list: &[usize],
     xs: &mut [f64],
     ys: &[f64],
-) -> bool
+)
     requires { ⌜ InRange (chartOf (now vertices) (now edges) (now faces)) ⌝ ∗ ⌜ Listed (chartOf (now vertices) (now edges) (now faces)) (now list) ⌝ ∗ ⌜ Holds (cornerX (chartOf (now vertices) (now edges) (now faces)) q (now list)) 0 (length (now list)) (now xs) ⌝ ∗ ⌜ Holds (cornerY (chartOf (now vertices) (now edges) (now faces)) q (now list)) 0 (length (now list)) (now ys) ⌝ }
     requires { ⌜ (0 < length (now list)) × (length (now list) ≤ length (now xs)) × (length (now list) ≤ length (now ys)) ⌝ }
-    ensures { λ r. ⌜ told r (take (length (now (list .entry))) (now (xs .exit))) ≡ cellShares (chartOf (now (vertices .entry)) (now (edges .entry)) (now (faces .entry))) q (now (list .entry)) ⌝ }
+    ensures { λ _. ⌜ take (length (now (list .entry))) (now (xs .exit)) ≡ cellShares (chartOf (now (vertices .entry)) (now (edges .entry)) (now (faces .entry))) q (now (list .entry)) ⌝ }
 {
     let n = list.len();
     let k = n - 1;
@@ -74,18 +71,7 @@ fn turn_all(
     while i < n {
         let stop = list[i];
         let first = Point2 { x: xs[i], y: ys[i] };
-        let Area::Whole(area) = turns::turn_about(
-            vertices,
-            edges,
-            faces,
-            q,
-            stop,
-            first,
-            edge,
-            last,
-        ) else {
-            return false;
-        };
+        let area = turns::turn_about(vertices, edges, faces, q, stop, first, edge, last);
         xs[i] = area;
         total = total + area;
         last = first;
@@ -93,7 +79,6 @@ fn turn_all(
         i += 1;
     }
     divide_all(xs, n, total);
-    true
 }
 
 // The weights of two listed edges' starts into the first elements of xs.
@@ -107,7 +92,7 @@ fn two_shares(
 )
     requires { ⌜ InRange (chartOf (now vertices) (now edges) (now faces)) ⌝ ∗ ⌜ Listed (chartOf (now vertices) (now edges) (now faces)) (now list) ⌝ }
     requires { ⌜ (length (now list) ≡ 2) × (2 ≤ length (now xs)) ⌝ }
-    ensures { λ _. ⌜ told true (take 2 (now (xs .exit))) ≡ twoShares (chartOf (now (vertices .entry)) (now (edges .entry)) (now (faces .entry))) q (now (list .entry)) ⌝ }
+    ensures { λ _. ⌜ take 2 (now (xs .exit)) ≡ twoShares (chartOf (now (vertices .entry)) (now (edges .entry)) (now (faces .entry))) q (now (list .entry)) ⌝ }
 {
     let v0 = turns::start_of(vertices, edges, faces, list[0]);
     let v1 = turns::start_of(vertices, edges, faces, list[1]);
@@ -116,8 +101,8 @@ fn two_shares(
     xs[1] = w.w1;
 }
 
-// The weights of the listed edges' starts into the first elements of xs; what else xs and ys hold then is left open. False where a turn is
-// broken. For calls that need no copy of their own.
+// The weights of the listed edges' starts into the first elements of xs; what else xs and ys hold then is left open. For
+// calls that need no copy of their own.
 pub fn natural_shares(
     vertices: &[i64],
     edges: &[usize],
@@ -126,26 +111,26 @@ pub fn natural_shares(
     list: &[usize],
     xs: &mut [f64],
     ys: &mut [f64],
-) -> bool
+)
     requires { ⌜ InRange (chartOf (now vertices) (now edges) (now faces)) ⌝ ∗ ⌜ OnGrid q ⌝ ∗ ⌜ Listed (chartOf (now vertices) (now edges) (now faces)) (now list) ⌝ }
     requires { ⌜ (length (now list) ≤ length (now xs)) × (length (now list) ≤ length (now ys)) ⌝ }
-    ensures { λ r. ⌜ told r (take (length (now (list .entry))) (now (xs .exit))) ≡ sharesOf (chartOf (now (vertices .entry)) (now (edges .entry)) (now (faces .entry))) q (now (list .entry)) ⌝ }
+    ensures { λ _. ⌜ take (length (now (list .entry))) (now (xs .exit)) ≡ sharesOf (chartOf (now (vertices .entry)) (now (edges .entry)) (now (faces .entry))) q (now (list .entry)) ⌝ }
 {
     let n = list.len();
     if n == 0 {
-        return true;
+        return;
     }
     if n == 1 {
         xs[0] = 1.0;
-        return true;
+        return;
     }
     let p = points::point_of(q);
     if n == 2 {
         two_shares(vertices, edges, faces, p, list, xs);
-        return true;
+        return;
     }
     insertion_cell(vertices, edges, faces, p, list, xs, ys);
-    turn_all(vertices, edges, faces, p, list, xs, ys)
+    turn_all(vertices, edges, faces, p, list, xs, ys);
 }
 
 // The first n listed half-edges' starts, each in its half-edge's place.
@@ -180,7 +165,7 @@ fn copy_out(edges: &[usize], list: &[usize], xs: &[f64], owners: &mut [u64], wei
     }
 }
 
-// The listed edges' starts with their weights; 15 where a turn is broken. Nothing is written before the last turn is known to be whole.
+// The listed edges' starts with their weights.
 pub fn natural_weights(
     vertices: &[i64],
     edges: &[usize],
@@ -189,16 +174,13 @@ pub fn natural_weights(
     list: &[usize],
     owners: &mut [u64],
     weights: &mut [f64],
-) -> u64
+)
     requires { ⌜ InRange (chartOf (now vertices) (now edges) (now faces)) ⌝ ∗ ⌜ OnGrid q ⌝ ∗ ⌜ Listed (chartOf (now vertices) (now edges) (now faces)) (now list) ⌝ }
     requires { ⌜ (length (now list) ≤ length (now owners)) × (length (now list) ≤ length (now weights)) ⌝ }
-    ensures { λ r. ⌜ outcome r (now (owners .exit)) (now (weights .exit)) ≡ naturalWeightsOf (chartOf (now (vertices .entry)) (now (edges .entry)) (now (faces .entry))) q (now (list .entry)) (now (owners .entry)) (now (weights .entry)) ⌝ }
+    ensures { λ _. ⌜ outcome (now (owners .exit)) (now (weights .exit)) ≡ naturalWeightsOf (chartOf (now (vertices .entry)) (now (edges .entry)) (now (faces .entry))) q (now (list .entry)) (now (owners .entry)) (now (weights .entry)) ⌝ }
 {
     let mut xs = room();
     let mut ys = room();
-    if !natural_shares(vertices, edges, faces, q, list, &mut xs, &mut ys) {
-        return 15;
-    }
+    natural_shares(vertices, edges, faces, q, list, &mut xs, &mut ys);
     copy_out(edges, list, &xs, owners, weights);
-    0
 }

@@ -12,7 +12,8 @@ use Rattle.faceset.specs.Laws.{cases, count-none, count-new}
 use Rattle.geometry.specs.declared.Place.{Place}
 use Rattle.chart.specs.Chart.{Chart, partner, InRange, partner-in}
 use Rattle.flips.specs.Search.{Found, found, shouldFlip, opening, listing, inspectAll, openedCount, free}
-use Rattle.neighbors.specs.Neighbors.{starts, finished, faceNeighbors, innerEdgeNeighbors}
+use Rattle.neighbors.specs.Neighbors.{starts, finished, faceSearch, edgeSearch, faceNeighbors, innerEdgeNeighbors}
+use Rattle.neighbors.specs.Each.{Each, done, also}
 use Rattle.flips.specs.Laws.{one-fewer, e1-in, e2-in, all-open, all-border}
 
 -- Moments of a search, each the half-edges waiting and what is found so far: one leads to another by turns of the loop, which take the first half-edge
@@ -23,9 +24,8 @@ pub data Leads (c : Chart) (q : Place) : List ℕ → Found → List ℕ → Fou
   lists : {h : ℕ} {s t : List ℕ} {w v : Found} → shouldFlip c q (w .opened) h ≡ false → Leads c q s (listing h w) t v → Leads c q (h ∷ s) w t v
 
 -- every half-edge that waits is one of the chart
-pub data All (c : Chart) : List ℕ → Type 0 where
-  nil : All c []
-  cons : {h : ℕ} {s : List ℕ} → h < c .halfEdges → All c s → All c (h ∷ s)
+abbrev pub All : Chart → List ℕ → Type 0
+All c = Each (λ (h : ℕ). h < c .halfEdges)
 
 module _ (c : Chart) (q : Place) (r : InRange c) where
   -- the search leads to where nothing waits
@@ -34,12 +34,12 @@ module _ (c : Chart) (q : Place) (r : InRange c) where
   ends zero [] w a l = stays
   ends (suc n) [] w a l = stays
   ends zero (h ∷ s) w a l = absurd (omega arith)
-  ends (suc n) (h ∷ s) w (cons i a) l =
+  ends (suc n) (h ∷ s) w (also i a) l =
       ⊎-elim
       (λ (y : shouldFlip c q (w .opened) h ≡ true).
       let fewer : suc (free c (add (c .face h) (w .opened))) ≡ free c (w .opened) = one-fewer c q r (w .opened) h i y .1 in
       rw (all-open c q r h s w i y)
-      (opens i y (ends n (partner (c .prev h) ∷ partner (c .next h) ∷ s) (opening c h w) (cons (e2-in c q r h i) (cons (e1-in c q r h i) a)) (omega arith))))
+      (opens i y (ends n (partner (c .prev h) ∷ partner (c .next h) ∷ s) (opening c h w) (also (e2-in c q r h i) (also (e1-in c q r h i) a)) (omega arith))))
       (λ (y : shouldFlip c q (w .opened) h ≡ false). rw (all-border c q r h s w y) (lists y (ends n s (listing h w) a (omega arith))))
       (cases (shouldFlip c q (w .opened) h))
 
@@ -77,7 +77,7 @@ module _ (c : Chart) (q : Place) (r : InRange c) where
   starts-in : (f : ℕ) → f < c .faces → All c (starts c f)
   starts-in f l =
       let a = r .adjacents f l in
-      cons (e1-in c q r (c .adjacent f) a) (cons (partner-in r (c .adjacent f) a) (cons (e2-in c q r (c .adjacent f) a) nil))
+      also (e1-in c q r (c .adjacent f) a) (also (partner-in r (c .adjacent f) a) (also (e2-in c q r (c .adjacent f) a) done))
 
   -- at each moment: listed and waiting are opened and two
   pub face-balance : (f : ℕ) {t : List ℕ} {v : Found} → f < c .faces → Leads c q (starts c f) (found (add f none) []) t v → length (v .listed) + length t ≡ openedCount c (v .opened) + 2
@@ -88,7 +88,7 @@ module _ (c : Chart) (q : Place) (r : InRange c) where
   unfolding faceNeighbors finished
   face-length f l =
       let m = search-leads (starts c f) (found (add f none) []) (starts-in f l) in
-      length-reverse (inspectAll c q (starts c f) (found (add f none) []) .listed) ∙ omega (arith, face-balance f l m)
+      length-reverse (faceSearch c q f .listed) ∙ omega (arith, face-balance f l m)
 
   -- at least three
   pub face-three : (f : ℕ) → f < c .faces → 3 ≤ length (faceNeighbors c q f .edges)
@@ -101,10 +101,10 @@ module _ (c : Chart) (q : Place) (r : InRange c) where
   pub edge-balance : (h : ℕ) {t : List ℕ} {v : Found} → Leads c q (h ∷ partner h ∷ []) (found none []) t v → length (v .listed) + length t ≡ openedCount c (v .opened) + 2
   edge-balance h m = omega (arith, balance m, count-none (c .faces))
 
-  pub edge-leads : (h : ℕ) → h < c .halfEdges → Leads c q (h ∷ partner h ∷ []) (found none []) [] (inspectAll c q (h ∷ partner h ∷ []) (found none []))
-  edge-leads h l = search-leads (h ∷ partner h ∷ []) (found none []) (cons l (cons (partner-in r h l) nil))
+  pub edge-leads : (h : ℕ) → h < c .halfEdges → Leads c q (h ∷ partner h ∷ []) (found none []) [] (edgeSearch c q h)
+  edge-leads h l = search-leads (h ∷ partner h ∷ []) (found none []) (also l (also (partner-in r h l) done))
 
   pub edge-length : (h : ℕ) → h < c .halfEdges → length (innerEdgeNeighbors c q h .edges) ≡ innerEdgeNeighbors c q h .opened + 2
   unfolding innerEdgeNeighbors finished
   edge-length h l =
-      length-reverse (inspectAll c q (h ∷ partner h ∷ []) (found none []) .listed) ∙ omega (arith, edge-balance h (edge-leads h l))
+      length-reverse (edgeSearch c q h .listed) ∙ omega (arith, edge-balance h (edge-leads h l))

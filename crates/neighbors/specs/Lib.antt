@@ -1,3 +1,4 @@
 pub mod Neighbors
+pub mod Each
 pub mod Counting
 pub mod Answers

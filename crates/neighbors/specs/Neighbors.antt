@@ -24,15 +24,23 @@ finished c w = record { edges = reverse (w .listed); opened = openedCount c (w .
 abbrev pub starts : Chart → ℕ → List ℕ
 starts c f = partner (c .next (c .adjacent f)) ∷ partner (c .adjacent f) ∷ partner (c .prev (c .adjacent f)) ∷ []
 
--- in a face: it counts as opened
+-- the search in a face: it counts as opened
+abbrev pub faceSearch : Chart → Place → ℕ → Found
+faceSearch c q f = inspectAll c q (starts c f) (found (add f none) [])
+
+-- the search on an inner edge: it starts at h and at its partner
+abbrev pub edgeSearch : Chart → Place → ℕ → Found
+edgeSearch c q h = inspectAll c q (h ∷ partner h ∷ []) (found none [])
+
+-- in a face
 unfoldable pub faceNeighbors : Chart → Place → ℕ → Neighbors
 unfolding finished
-faceNeighbors c q f = finished c (inspectAll c q (starts c f) (found (add f none) []))
+faceNeighbors c q f = finished c (faceSearch c q f)
 
--- on an inner edge: the search starts at h and at its partner
+-- on an inner edge
 unfoldable pub innerEdgeNeighbors : Chart → Place → ℕ → Neighbors
 unfolding finished
-innerEdgeNeighbors c q h = finished c (inspectAll c q (h ∷ partner h ∷ []) (found none []))
+innerEdgeNeighbors c q h = finished c (edgeSearch c q h)
 
 -- on a hull edge: the pair, not reversed, since the Rust returns before `reverse`
 abbrev pub hullEdgeNeighbors : ℕ → Neighbors
@@ -50,6 +58,13 @@ partOfConvexHull c h = outer c h || outer c (partner h)
 unfoldable pub edgeNeighbors : Chart → Place → ℕ → Neighbors
 unfolding innerEdgeNeighbors
 edgeNeighbors c q h = cond (partOfConvexHull c h) (hullEdgeNeighbors h) (innerEdgeNeighbors c q h)
+
+-- the answer's own search, by the location: on the hull, on a vertex and outside nothing is searched
+abbrev pub searchOf : Chart → Place → Location → Found
+searchOf c q (OnFace f) = faceSearch c q f
+searchOf c q (OnEdge h) = cond (partOfConvexHull c h) (found none []) (edgeSearch c q h)
+searchOf c q (OnVertex v) = found none []
+searchOf c q (OutsideOfConvexHull h) = found none []
 
 -- by the location; elsewhere the Rust lists nothing
 unfoldable pub neighborsOf : Chart → Place → Location → Neighbors

@@ -36,11 +36,6 @@ abbrev pub neighborsSay : NaturalNeighbors → Tally
 neighborsSay (Listed n o) = listed n o
 neighborsSay (Refused n) = turnedDown n
 
--- so many written and opened where no refusal met the turns
-abbrev pub settledTally : ℕ → ℕ → ℕ → Tally
-settledTally zero n o = listed n o
-settledTally (suc r) n o = turnedDown (suc r)
-
 -- ---- the edges call: its answer, and the lent slice as it returns
 pub record Edges : Type 0 where
   pub answer : Tally
@@ -114,9 +109,9 @@ sharesRefused n os ws = record { answer = turnedDown n; owners = os; weights = w
 abbrev pub sharesLeft : NaturalNeighbors → List ℕ → List Float → Shares
 sharesLeft r os ws = record { answer = neighborsSay r; owners = os; weights = ws }
 
--- vertices and weights in front, the rest of the slices as it was; a broken turn, 15, leaves them unchanged
+-- vertices and weights in front, the rest of the slices as it was
 abbrev pub sharesSettled : ℕ → ℕ → Outcome → Shares
-sharesSettled n o out = record { answer = settledTally (out .refusal) n o; owners = out .owners; weights = out .weights }
+sharesSettled n o out = record { answer = listed n o; owners = out .owners; weights = out .weights }
 
 abbrev pub sharesAt : Chart → Place → Location → List ℕ → List Float → Shares
 sharesAt c q l os ws =
@@ -161,11 +156,3 @@ shares-found (suc n) c q l os ws e = let o : ⊥ = omega arith in absurd o
 pub shares-turned : (n : ℕ) (c : Chart) (q : Place) (l : Location) (os : List ℕ) (ws : List Float) → (n ≡ 0 → ⊥) → sharesFrom n c q l os ws ≡ sharesRefused n os ws
 shares-turned zero c q l os ws e = absurd (e refl)
 shares-turned (suc n) c q l os ws e = refl
-
-pub settled-turned : (r n o : ℕ) → (r ≡ 0 → ⊥) → settledTally r n o ≡ turnedDown r
-settled-turned zero n o e = absurd (e refl)
-settled-turned (suc r) n o e = refl
-
-pub settled-none : (r n o : ℕ) → r ≡ 0 → settledTally r n o ≡ listed n o
-settled-none zero n o e = refl
-settled-none (suc r) n o e = let f : ⊥ = omega arith in absurd f

@@ -1,4 +1,4 @@
-// The queries on checked tables, behind the refusals 12 to 15.
+// The queries on checked tables, behind the refusals 12 to 14.
 use geometry::Place;
 use locate::Location;
 use weights::BarycentricWeights;
@@ -13,7 +13,7 @@ ghost use Rattle.gradient.specs.Gradient.{Valued};
 ghost use Rattle.query.specs.Gradient.{gradientSays, gradientOn};
 ghost use Rattle.accepted.specs.Accepted.{Accepted};
 ghost use Rattle.locate.specs.Laws.{Holds};
-ghost use Rattle.query.specs.Natural.{neighborsSay, edgesLeft, edgesAt, edgesOn, settledTally, sharesLeft, sharesAt, sharesOn};
+ghost use Rattle.query.specs.Natural.{neighborsSay, edgesLeft, edgesAt, edgesOn, sharesLeft, sharesAt, sharesOn};
 ghost use Rattle.query.specs.Location.{positionSays, locateOn};
 ghost use Rattle.query.specs.Location.Located.{at};
 ghost use Rattle.weights.specs.Barycentric.{weightsSay};
@@ -155,16 +155,6 @@ pub fn edges_on(
     edges_at(vertices, edges, faces, q, place, out)
 }
 
-// What a call that wrote its slices answers.
-fn settle(refusal: u64, n: usize, opened: usize) -> NaturalNeighbors
-    ensures { λ r. ⌜ neighborsSay r ≡ settledTally refusal n opened ⌝ }
-{
-    if refusal != 0 {
-        return NaturalNeighbors::Refused(refusal);
-    }
-    NaturalNeighbors::Listed(n as u64, opened as u64)
-}
-
 // At a location that was found: the edges, and the weights from them.
 fn shares_at(
     vertices: &[i64],
@@ -181,11 +171,11 @@ fn shares_at(
     let mut list = values::list_room();
     let found = neighbors::get_natural_neighbor_edges(vertices, edges, faces, q, place, &mut list);
     let n = found.count;
-    let refusal = natural::natural_weights(vertices, edges, faces, q, &list[..n], owners, weights);
-    settle(refusal, n, found.opened)
+    natural::natural_weights(vertices, edges, faces, q, &list[..n], owners, weights);
+    NaturalNeighbors::Listed(n as u64, found.opened as u64)
 }
 
-// On checked tables: 13, 14, 15, then the weights.
+// On checked tables: 13, 14, then the weights.
 pub fn shares_on(
     vertices: &[i64],
     edges: &[usize],

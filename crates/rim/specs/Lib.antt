@@ -8,3 +8,5 @@ pub mod Loads
 pub mod Homes
 pub mod Ropes
 pub mod Saved
+pub mod Around
+pub mod Occurring

@@ -18,8 +18,6 @@ use Rattle.neighbors.specs.Neighbors.{finished, faceNeighbors, innerEdgeNeighbo
 use Rattle.points.specs.declared.PointProjection.{PointProjection}
 use Rattle.points.specs.Points.{relativePosition, circumcenterOf}
 use Rattle.weights.specs.Barycentric.{Weights as B, twoPointInterpolation, barycentricInterpolation, weighTwo, weighThree}
-use Rattle.turns.specs.declared.Area.{Area}
-use Rattle.turns.specs.declared.Area.the-variants as T
 use Rattle.turns.specs.Turn.{cellCorner, faceCenter, turnFrom, turnOf}
 use Rattle.points.specs.declared.Point2.{Point2}
 use Rattle.natural.specs.Natural.{sharesFrom, sharesOf, settled}
@@ -73,31 +71,26 @@ nothing = chartOf [] [] []
 unfoldable pub oneFace : Chart
 oneFace = chartOf verticesA (0 ∷ 2 ∷ 4 ∷ 1 ∷ 1 ∷ 5 ∷ 3 ∷ 1 ∷ 1 ∷ 4 ∷ 0 ∷ 1 ∷ 2 ∷ 1 ∷ 5 ∷ 1 ∷ 2 ∷ 0 ∷ 2 ∷ 1 ∷ 0 ∷ 3 ∷ 1 ∷ 1 ∷ []) (1 ∷ 0 ∷ [])
 
--- triangle A, where the next of half-edge 2 is half-edge 0: a turn about its end goes on to half-edge 1, which has face 0
-unfoldable pub astray : Chart
-astray = chartOf verticesA (0 ∷ 2 ∷ 4 ∷ 1 ∷ 1 ∷ 5 ∷ 3 ∷ 0 ∷ 1 ∷ 0 ∷ 0 ∷ 1 ∷ 2 ∷ 1 ∷ 5 ∷ 0 ∷ 2 ∷ 0 ∷ 2 ∷ 1 ∷ 0 ∷ 3 ∷ 1 ∷ 0 ∷ []) facesA
-
--- four half-edges of face 1, of which the partner of each one's next is the one after it: 0, 1, 2, 3 and 0 again
+-- six half-edges of face 1, of which the partner of each one's next is the one after it: 0 to 5, and 0 again. Its corners are those of triangle A, and seen from
+-- (0, 0) its circle's center is (5, 5), exactly
 unfoldable pub wheel : Chart
-wheel = chartOf verticesA (0 ∷ 0 ∷ 0 ∷ 1 ∷ 1 ∷ 3 ∷ 0 ∷ 1 ∷ 2 ∷ 2 ∷ 0 ∷ 1 ∷ 0 ∷ 1 ∷ 0 ∷ 1 ∷ []) facesA
+wheel = chartOf verticesA (0 ∷ 0 ∷ 0 ∷ 1 ∷ 1 ∷ 3 ∷ 0 ∷ 1 ∷ 0 ∷ 2 ∷ 0 ∷ 1 ∷ 2 ∷ 5 ∷ 0 ∷ 1 ∷ 0 ∷ 4 ∷ 0 ∷ 1 ∷ 0 ∷ 1 ∷ 0 ∷ 1 ∷ []) (0 ∷ 1 ∷ [])
 
-abbrev whole : Area → Bool
-whole (T.Whole a) = true
-whole T.Broken = false
-
-abbrev turned : ℕ → Bool
+-- the turn from half-edge 0, seen from (0, 0)
+abbrev turned : ℕ → Float
 turned stop =
-    let p : Point2 = record { x = bits 0; y = bits 0 } in
-    whole (turnOf wheel p stop p 0 p)
+    let q : Point2 = record { x = bits 0; y = bits 0 } in
+    let one : Float = bits 0x3ff0_0000_0000_0000 in
+    turnOf wheel q stop (record { x = one; y = bits 0 }) 0 (record { x = bits 0; y = one })
 
 -- the turn from half-edge 2 to 4 on triangle A, one step, seen from (20, 20): the face's center has negative coordinates
-abbrev turnedAside : Area
+abbrev turnedAside : Float
 turnedAside =
     let q : Point2 = record { x = bits 0x4034_0000_0000_0000; y = bits 0x4034_0000_0000_0000 } in
     turnOf (chartOf verticesA edgesA facesA) q 4 (record { x = bits 0x8000_0000_0000_0000; y = bits 0 }) 2 (record { x = bits 0; y = bits 0 })
 
 -- a triangle of (0,0), (8,0) and (0,8), whose circle has its center at (4,4), exactly; the turn from half-edge 2 to 4, seen from (0,0)
-abbrev turnedAt : Area
+abbrev turnedAt : Float
 turnedAt =
     let q : Point2 = record { x = bits 0; y = bits 0 } in
     let one : Float = bits 0x3ff0_0000_0000_0000 in
@@ -128,24 +121,21 @@ pub record Rows : Type 0 where
   pub opened-once : faceNeighbors oneFace (place 20 20) 1 ≡ record { edges = 4 ∷ 0 ∷ 2 ∷ []; opened = 1 }
   -- `inspect_flips` opens inner faces alone: seen from there, the outer face of triangle A would be opened by the circle too
   pub outer-border : faceNeighbors (chartOf verticesA edgesA facesA) (place 20 20) 1 ≡ record { edges = 4 ∷ 0 ∷ 2 ∷ []; opened = 1 }
-  -- "a turn about a neighbour .. that meets face 0 .. is broken and refuses with 15"; no slice is written
-  pub astray-shared : sharesOn astray (place 2 3) (9 ∷ 9 ∷ 9 ∷ []) (bits 1 ∷ bits 1 ∷ bits 1 ∷ []) ≡ sharesAre (Tally.turnedDown 15) (9 ∷ 9 ∷ 9 ∷ []) (bits 1 ∷ bits 1 ∷ bits 1 ∷ [])
-  pub astray-valued-2 : valueOn 2 astray (place 2 3) ≡ turnedDown 15
-  pub astray-valued-3 : valueOn 3 astray (place 2 3) ≡ turnedDown 15
-  -- "or takes more steps than there are half-edges": four half-edges, and four steps from 0 until half-edge 0, the partner of 1, comes again; none leads to 5
-  pub four-steps : turned 1 ≡ true
-  pub more-steps : turned 4 ≡ false
+  -- as many steps as there are half-edges are allowed, which no accepted chart needs (02, CR 11). The sixth step is at half-edge 0, the partner of 1, and the
+  -- polygon is closed: 1 + 0 + 5 * 25 + 0 less 0 + 5 + 5 * 25 + 5. None leads to 7, the partner of 6: without its last side it is 126 less 130
+  pub six-steps : turned 1 ≡ bits 0xc022_0000_0000_0000
+  pub no-more-steps : turned 6 ≡ bits 0xc010_0000_0000_0000
   -- `polygon_area` is positive_area - negative_area: (1, 0), (0, 1), (4, 4) give 1 * 1 + 0 * 4 + 4 * 0 less 0 * 0 + 1 * 4 + 4 * 1, which is -7
-  pub area-sign : turnedAt ≡ T.Whole (bits 0xc01c_0000_0000_0000)
+  pub area-sign : turnedAt ≡ bits 0xc01c_0000_0000_0000
   -- `positive_area` begins with a product and no sum, so that it is -0 where all three products are; `negative_area` is +0
-  pub minus-zero-stays : turnedAside ≡ T.Whole (bits 0x8000_0000_0000_0000)
+  pub minus-zero-stays : turnedAside ≡ bits 0x8000_0000_0000_0000
   -- `estimate_gradient`: [zero; 2] where the sum's last component is 0 (so the oracle, forced)
   pub no-area : gradientOn onLine 1 ≡ G.slope (bits 0) (bits 0)
   -- `relative_position` below 0: (l - f) / l with l = 4 and f = -1
   pub below-zero : relativePosition (record { factor = bits 0x3ff0_0000_0000_0000; «length_2» = bits 0xc010_0000_0000_0000 }) ≡ bits 0x3ff4_0000_0000_0000
 
 pub rows : Rows
-unfolding halved insideOut oneFace astray wheel onLine verticesA edgesA facesA from offGrid crossOf dotOf norm2Of side lifted circle onOpenSegment locationOf S.none S.add S.countBelow inCircle shouldFlip inspect inspectAll finished faceNeighbors innerEdgeNeighbors edgeNeighbors neighborsOf circumcenterOf twoPointInterpolation barycentricInterpolation weighTwo weighThree cellCorner faceCenter turnFrom sharesFrom sharesOf settled normalOf addNormal gradientFrom turn overPairs sumFrom blendOn blended blendFrom locatedValue valueOn locateOn edgesOn sharesOn gradientOn add sub mul div le lt eq ne neg ofBits ofInt barycentricOn
+unfolding halved insideOut oneFace wheel onLine verticesA edgesA facesA from offGrid crossOf dotOf norm2Of side lifted circle onOpenSegment locationOf S.none S.add S.countBelow inCircle shouldFlip inspect inspectAll finished faceNeighbors innerEdgeNeighbors edgeNeighbors neighborsOf circumcenterOf twoPointInterpolation barycentricInterpolation weighTwo weighThree cellCorner faceCenter turnFrom sharesFrom sharesOf settled normalOf addNormal gradientFrom turn overPairs sumFrom blendOn blended blendFrom locatedValue valueOn locateOn edgesOn sharesOn gradientOn add sub mul div le lt eq ne neg ofBits ofInt barycentricOn
 rows =
     record {
       vertex-first = refl;
@@ -160,11 +150,8 @@ rows =
       none-valued-2 = refl;
       opened-once = refl;
       outer-border = refl;
-      astray-shared = refl;
-      astray-valued-2 = refl;
-      astray-valued-3 = refl;
-      four-steps = refl;
-      more-steps = refl;
+      six-steps = refl;
+      no-more-steps = refl;
       area-sign = refl;
       minus-zero-stays = refl;
       no-area = refl;

@@ -6,34 +6,28 @@ use borrow.Author.Tests.{eq-eqb, ne-eqb}
 use Rattle.chart.specs.Chart.{Chart, partner}
 use Rattle.points.specs.declared.Point2.{Point2}
 use Rattle.turns.specs.declared.Sides.{Sides}
-use Rattle.turns.specs.declared.Area.the-variants.{Whole, Broken}
 use Rattle.turns.specs.Turn.{faceCenter, addSide, areaOf, turnFrom}
 
--- ---- a turn after i of n steps: it meets face 0
+-- ---- a turn after i of n steps: it is back
 module _ (c : Chart) (q : Point2) (stop : ℕ) (first : Point2) (n i edge : ℕ) (last : Point2) (s : Sides) where
-  pub turn-outer : i < n → c .face edge ≡ 0 → turnFrom c q stop first (n - i) edge last s ≡ Broken
-  unfolding turnFrom
-  turn-outer h p = let k : n - i ≡ suc (n - (i + 1)) = omega arith in rw (k, eq-eqb (c .face edge) 0 p)
-
-  -- it is back
-  pub turn-whole : i < n → (c .face edge ≡ 0 → ⊥) → partner (c .next edge) ≡ partner stop
+  pub turn-whole : i < n → partner (c .next edge) ≡ partner stop
       → turnFrom c q stop first (n - i) edge last s
-      ≡ Whole (areaOf (addSide (addSide s last (faceCenter c q (c .face edge))) (faceCenter c q (c .face edge)) first))
+      ≡ areaOf (addSide (addSide s last (faceCenter c q (c .face edge))) (faceCenter c q (c .face edge)) first)
   unfolding turnFrom
-  turn-whole h p e =
+  turn-whole h e =
       let k : n - i ≡ suc (n - (i + 1)) = omega arith in
-      rw (k, ne-eqb (c .face edge) 0 p, eq-eqb (partner (c .next edge)) (partner stop) e)
+      rw (k, eq-eqb (partner (c .next edge)) (partner stop) e)
 
   -- it goes on
-  pub turn-on : i < n → (c .face edge ≡ 0 → ⊥) → (partner (c .next edge) ≡ partner stop → ⊥)
+  pub turn-on : i < n → (partner (c .next edge) ≡ partner stop → ⊥)
       → turnFrom c q stop first (n - i) edge last s
       ≡ turnFrom c q stop first (n - (i + 1)) (partner (c .next edge)) (faceCenter c q (c .face edge)) (addSide s last (faceCenter c q (c .face edge)))
   unfolding turnFrom
-  turn-on h p e =
+  turn-on h e =
       let k : n - i ≡ suc (n - (i + 1)) = omega arith in
-      rw (k, ne-eqb (c .face edge) 0 p, ne-eqb (partner (c .next edge)) (partner stop) e)
+      rw (k, ne-eqb (partner (c .next edge)) (partner stop) e)
 
   -- it has no step left
-  pub turn-over : n ≤ i → turnFrom c q stop first (n - i) edge last s ≡ Broken
+  pub turn-over : n ≤ i → turnFrom c q stop first (n - i) edge last s ≡ areaOf s
   unfolding turnFrom
   turn-over h = let k : n - i ≡ 0 = omega arith in rw k

@@ -3,13 +3,11 @@ use mathlib.Core.Bool.{cond}
 use Prim.Native.Nat.{ℕ, zero, suc}
 use lib.Dec.{eqb}
 use lib.Ieee.{Float}
-use Rattle.chart.specs.Chart.{Chart, partner, fromOf, toOf, outer, corner₀, corner₁, corner₂}
+use Rattle.chart.specs.Chart.{Chart, partner, fromOf, toOf, corner₀, corner₁, corner₂}
 use Rattle.points.specs.declared.Point2.{Point2}
 use Rattle.points.specs.Floats.{f0, _+f_, _-f_, _*f_}
 use Rattle.points.specs.Points.{pointOf, pointSub, circumcenterOf}
 use Rattle.turns.specs.declared.Sides.{Sides}
-use Rattle.turns.specs.declared.Area.{Area}
-use Rattle.turns.specs.declared.Area.the-variants.{Whole, Broken}
 
 -- a corner of the insertion cell, seen from q: the circumcenter of [to - q, from - q, 0] of a listed edge
 unfoldable pub cellCorner : Chart → Point2 → ℕ → Point2
@@ -34,16 +32,16 @@ addSide s a b = record { positive = s .positive +f a .x *f b .y; negative = s .n
 abbrev pub areaOf : Sides → Float
 areaOf s = s .positive -f s .negative
 
--- the inner loop, with k steps left: broken at face 0 or with no step left, whole once it is at the stop edge's partner
-unfoldable pub turnFrom : (c : Chart) (q : Point2) (stop : ℕ) (first : Point2) (k edge : ℕ) (last : Point2) → Sides → Area
-turnFrom c q stop first zero edge last s = Broken
+-- the inner loop, with k steps left: it ends once it is at the stop edge's partner. On an accepted chart it is there within as many steps as faces were
+-- opened, so that it never has no step left (02, CR 11)
+unfoldable pub turnFrom : (c : Chart) (q : Point2) (stop : ℕ) (first : Point2) (k edge : ℕ) (last : Point2) → Sides → Float
+turnFrom c q stop first zero edge last s = areaOf s
 turnFrom c q stop first (suc k) edge last s =
     let current = faceCenter c q (c .face edge) in
     let t = addSide s last current in
     let on = partner (c .next edge) in
-    cond (outer c edge) Broken
-    (cond (eqb on (partner stop)) (Whole (areaOf (addSide t current first))) (turnFrom c q stop first k on current t))
+    cond (eqb on (partner stop)) (areaOf (addSide t current first)) (turnFrom c q stop first k on current t)
 
--- the turn about a neighbour: as many steps as there are half-edges are allowed, one more is broken
-abbrev pub turnOf : (c : Chart) (q : Point2) (stop : ℕ) (first : Point2) (edge : ℕ) (last : Point2) → Area
+-- the turn about a neighbour: as many steps as there are half-edges are allowed
+abbrev pub turnOf : (c : Chart) (q : Point2) (stop : ℕ) (first : Point2) (edge : ℕ) (last : Point2) → Float
 turnOf c q stop first edge last = turnFrom c q stop first (c .halfEdges) edge last (firstSide first last)

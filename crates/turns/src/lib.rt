@@ -14,12 +14,6 @@ pub struct Sides {
     pub negative: f64,
 }
 
-// The area of one neighbour's polygon; or the turn about the neighbour is broken.
-pub enum Area {
-    Whole(f64),
-    Broken,
-}
-
 impl Sides {
     fn first(a: Point2, b: Point2) -> Sides
         ensures { λ r. ⌜ r ≡ firstSide a b ⌝ }
@@ -93,7 +87,7 @@ pub fn turn_about(
     first: Point2,
     start: usize,
     before: Point2,
-) -> Area
+) -> f64
     requires { ⌜ InRange (chartOf (now vertices) (now edges) (now faces)) ⌝ ∗ ⌜ stop < rows (now edges) ⌝ ∗ ⌜ start < rows (now edges) ⌝ }
     ensures { λ r. ⌜ r ≡ turnOf (chartOf (now (vertices .entry)) (now (edges .entry)) (now (faces .entry))) q stop first start before ⌝ }
 {
@@ -105,18 +99,15 @@ pub fn turn_about(
     let mut steps = 0;
     while steps < most {
         let face = chart::face_of(edges, edge);
-        if face == 0 {
-            return Area::Broken;
-        }
         let current = face_center(vertices, edges, faces, q, face);
         sides = sides.add(last, current);
         edge = chart::partner_of(chart::next_of(edges, edge));
         last = current;
         if edge == end {
             let all = sides.add(current, first);
-            return Area::Whole(all.area());
+            return all.area();
         }
         steps += 1;
     }
-    Area::Broken
+    sides.area()
 }

@@ -1,6 +1,6 @@
--- 01, "Gradient and value": the value of a load on a chart, behind the refusals of the query, the location and the turns.
-use mathlib.Core.Path.{_≡_, refl, sym, ap, _∙_}
-use mathlib.Core.Bool.{Bool, true, false, cond, not, false≢true}
+-- 01, "Gradient and value": the value of a load on a chart, behind the refusals of the query and the location.
+use mathlib.Core.Path.{_≡_, refl}
+use mathlib.Core.Bool.{Bool, true, false, cond, not}
 use mathlib.Core.List.{List, [], _∷_, map}
 use Prim.Native.Nat.{ℕ, zero, suc, _≤_, _<_}
 use native.Mathlib.Nat.{not-suc-le-zero, le-of-suc-le-suc}
@@ -19,7 +19,7 @@ use Rattle.locate.specs.Location.{locationOf}
 use Rattle.locate.specs.Laws.{Holds}
 use Rattle.neighbors.specs.Neighbors.{neighborsOf}
 use Rattle.weights.specs.Barycentric.{Weights, verticesOf, weightsOf, weighTwo, weighThree}
-use Rattle.natural.specs.Natural.{Shares, shares, broken, sharesOf, told}
+use Rattle.natural.specs.Natural.{sharesOf}
 use Rattle.natural.specs.Facts.{verticesIn}
 use Rattle.interpolate.specs.Values.{Owners, valueSum, valueBlend}
 use Rattle.values.specs.Located.{placeRefusal, barycentricAt}
@@ -49,14 +49,9 @@ barycentricValue c (Weights.turnedDown n) = turnedDown n
 abbrev pub byMethod : ℕ → Chart → Place → List ℕ → List Float → Float
 byMethod m c q os ws = cond (eqb m 2) (valueSum c os ws) (valueBlend c q os ws)
 
--- a broken turn is 15
-abbrev pub fromShares : ℕ → Chart → Place → List ℕ → Shares → Answer
-fromShares m c q os broken = turnedDown 15
-fromShares m c q os (shares ws) = value (byMethod m c q os ws)
-
 -- methods 2 and 3, from the list of natural neighbour edges
 abbrev pub naturalValue : ℕ → Chart → Place → List ℕ → Answer
-naturalValue m c q list = fromShares m c q (map (c .origin) list) (sharesOf c q list)
+naturalValue m c q list = value (byMethod m c q (map (c .origin) list) (sharesOf c q list))
 
 -- at a location that was found
 abbrev pub valueAt : ℕ → Chart → Place → Location → Answer
@@ -84,42 +79,37 @@ pub value-turned : (n m : ℕ) (c : Chart) (q : Place) (l : Location) → (n ≡
 value-turned zero m c q l e = absurd (e refl)
 value-turned (suc n) m c q l e = refl
 
--- ---- laws: the refusals of a value are at most 15
-abbrev pub UpTo15 : Answer → Type 0
-UpTo15 (value v) = Unit {0}
-UpTo15 (turnedDown k) = k ≤ 15
+-- ---- laws: the refusals of a value are at most 14
+abbrev pub UpTo14 : Answer → Type 0
+UpTo14 (value v) = Unit {0}
+UpTo14 (turnedDown k) = k ≤ 14
 
-cond-up-to-15 : (b : Bool) (x y : Answer) → UpTo15 x → UpTo15 y → UpTo15 (cond b x y)
-cond-up-to-15 true x y f g = f
-cond-up-to-15 false x y f g = g
+cond-up-to-14 : (b : Bool) (x y : Answer) → UpTo14 x → UpTo14 y → UpTo14 (cond b x y)
+cond-up-to-14 true x y f g = f
+cond-up-to-14 false x y f g = g
 
-barycentric-up-to-15 : (c : Chart) (q : Place) (l : Location) → UpTo15 (barycentricValue c (barycentricAt c q l))
+barycentric-up-to-14 : (c : Chart) (q : Place) (l : Location) → UpTo14 (barycentricValue c (barycentricAt c q l))
 unfolding weighTwo weighThree
-barycentric-up-to-15 c q (OnVertex v) = tt
-barycentric-up-to-15 c q (OnEdge h) = tt
-barycentric-up-to-15 c q (OnFace f) = tt
-barycentric-up-to-15 c q (OutsideOfConvexHull h) = omega arith
+barycentric-up-to-14 c q (OnVertex v) = tt
+barycentric-up-to-14 c q (OnEdge h) = tt
+barycentric-up-to-14 c q (OnFace f) = tt
+barycentric-up-to-14 c q (OutsideOfConvexHull h) = omega arith
 
-shares-up-to-15 : (m : ℕ) (c : Chart) (q : Place) (os : List ℕ) (t : Shares) → UpTo15 (fromShares m c q os t)
-shares-up-to-15 m c q os broken = omega arith
-shares-up-to-15 m c q os (shares ws) = tt
+at-up-to-14 : (m : ℕ) (c : Chart) (q : Place) (l : Location) → UpTo14 (valueAt m c q l)
+at-up-to-14 m c q l =
+    cond-up-to-14 (eqb m 1) (barycentricValue c (barycentricAt c q l)) (naturalValue m c q (neighborsOf c q l .edges)) (barycentric-up-to-14 c q l) tt
 
-at-up-to-15 : (m : ℕ) (c : Chart) (q : Place) (l : Location) → UpTo15 (valueAt m c q l)
-at-up-to-15 m c q l =
-    cond-up-to-15 (eqb m 1) (barycentricValue c (barycentricAt c q l)) (naturalValue m c q (neighborsOf c q l .edges)) (barycentric-up-to-15 c q l)
-    (shares-up-to-15 m c q (map (c .origin) (neighborsOf c q l .edges)) (sharesOf c q (neighborsOf c q l .edges)))
+from-up-to-14 : (m : ℕ) (c : Chart) (q : Place) (l : Location) → UpTo14 (valueFrom (placeRefusal l) m c q l)
+from-up-to-14 m c q (OnVertex v) = at-up-to-14 m c q (OnVertex v)
+from-up-to-14 m c q (OnEdge h) = at-up-to-14 m c q (OnEdge h)
+from-up-to-14 m c q (OnFace f) = at-up-to-14 m c q (OnFace f)
+from-up-to-14 m c q (OutsideOfConvexHull h) = omega arith
 
-from-up-to-15 : (m : ℕ) (c : Chart) (q : Place) (l : Location) → UpTo15 (valueFrom (placeRefusal l) m c q l)
-from-up-to-15 m c q (OnVertex v) = at-up-to-15 m c q (OnVertex v)
-from-up-to-15 m c q (OnEdge h) = at-up-to-15 m c q (OnEdge h)
-from-up-to-15 m c q (OnFace f) = at-up-to-15 m c q (OnFace f)
-from-up-to-15 m c q (OutsideOfConvexHull h) = omega arith
-
-pub value-up-to-15 : (m : ℕ) (c : Chart) (q : Place) → UpTo15 (valueOn m c q)
+pub value-up-to-14 : (m : ℕ) (c : Chart) (q : Place) → UpTo14 (valueOn m c q)
 unfolding valueOn locatedValue
-value-up-to-15 m c q =
-    cond-up-to-15 (eqb m 0) (turnedDown 12) (cond (offGrid q) (turnedDown 13) (locatedValue m c q)) (omega arith)
-    (cond-up-to-15 (offGrid q) (turnedDown 13) (locatedValue m c q) (omega arith) (from-up-to-15 m c q (locationOf c q)))
+value-up-to-14 m c q =
+    cond-up-to-14 (eqb m 0) (turnedDown 12) (cond (offGrid q) (turnedDown 13) (locatedValue m c q)) (omega arith)
+    (cond-up-to-14 (offGrid q) (turnedDown 13) (locatedValue m c q) (omega arith) (from-up-to-14 m c q (locationOf c q)))
 
 -- by a known method, on the grid, the value is that of the location
 pub value-located : (m : ℕ) (c : Chart) (q : Place) → eqb m 0 ≡ false → offGrid q ≡ false → valueOn m c q ≡ locatedValue m c q
@@ -151,21 +141,7 @@ listed-owners c r [] b = in-none c
 listed-owners c r (h ∷ list) b =
     in-more c _ (map (c .origin) list) (r .origins h (b 0 (omega arith))) (listed-owners c r list (λ k l. b (suc k) (omega arith)))
 
--- ---- laws: what `natural_shares` says of a list
-module _ (m : ℕ) (c : Chart) (q : Place) (list list' : List ℕ) (same : list' ≡ list) (r : Bool) (xs : List Float) (e : told r (take (length list') xs) ≡ sharesOf c q list') where
-  told-list : told r (take (length list') xs) ≡ sharesOf c q list
-  told-list = e ∙ ap (sharesOf c q) same
-
-  pub shares-broken : not r ≡ true → naturalValue m c q list ≡ turnedDown 15
-  shares-broken f = pick r f told-list
-    where
-      pick : (b : Bool) → not b ≡ true → told b (take (length list') xs) ≡ sharesOf c q list → naturalValue m c q list ≡ turnedDown 15
-      pick true g d = absurd (false≢true g)
-      pick false g d = rw (← d)
-
-  pub shares-whole : (n : ℕ) (os : List ℕ) → not r ≡ false → length list' ≡ n → os ≡ map (c .origin) list' → naturalValue m c q list ≡ value (byMethod m c q os (take n xs))
-  shares-whole n os f l o = rw (← l, o ∙ ap (map (c .origin)) same) (pick r f told-list)
-    where
-      pick : (b : Bool) → not b ≡ false → told b (take (length list') xs) ≡ sharesOf c q list → naturalValue m c q list ≡ value (byMethod m c q (map (c .origin) list) (take (length list') xs))
-      pick true g d = rw (← d)
-      pick false g d = absurd (false≢true (sym g))
+-- ---- laws: what `natural_shares` leaves of a list
+pub shares-whole : (m : ℕ) (c : Chart) (q : Place) (list list' : List ℕ) → list' ≡ list → (xs : List Float) → take (length list') xs ≡ sharesOf c q list'
+    → (n : ℕ) (os : List ℕ) → length list' ≡ n → os ≡ map (c .origin) list' → naturalValue m c q list ≡ value (byMethod m c q os (take n xs))
+shares-whole m c q list list' same xs e n os l o = rw (← same, o, ← l, e)

@@ -157,9 +157,7 @@ fn natural_value(
 {
     let found = neighbors::get_natural_neighbor_edges(vertices, edges, faces, q, place, list);
     let n = found.count;
-    if !natural::natural_shares(vertices, edges, faces, q, &list[..n], xs, ys) {
-        return InterpolatedValue::Refused(15);
-    }
+    natural::natural_shares(vertices, edges, faces, q, &list[..n], xs, ys);
     natural::to_origins(edges, list, n);
     let value = value_by(
         vertices,
@@ -209,7 +207,7 @@ fn value_at(
     )
 }
 
-// At a load on the grid, by a known method: 14, then the value, or 15. A batch draws the lines and estimates the gradients once.
+// At a load on the grid, by a known method: 14, then the value. A batch draws the lines and estimates the gradients once.
 pub fn located_value(
     vertices: &[i64],
     edges: &[usize],
@@ -245,7 +243,7 @@ pub fn located_value(
     )
 }
 
-// On checked tables: 12, 13, 14, then the value, or 15.
+// On checked tables: 12, 13, 14, then the value.
 pub fn value_on(
     vertices: &[i64],
     edges: &[usize],

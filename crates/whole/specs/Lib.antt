@@ -1,4 +1,5 @@
 pub mod Bools
+pub mod Among
 pub mod Test
 pub mod Bound
 pub mod First

@@ -1,11 +1,9 @@
--- `natural::natural_weights` meets its contract: nothing is written where a turn is broken. Assumes nothing.
-use mathlib.Core.List.{map}
+-- `natural::natural_weights` meets its contract. Assumes nothing.
 use native.Mathlib.Omega.{arith}
 use borrow.Author.Needs.{needs}
-use lib.ListN.{length, take}
 use Rattle.chart.specs.Chart.{chartOf}
 use Rattle.natural.specs.Natural.{sharesOf}
-use Rattle.natural.specs.Laws.{settled-broken, settled-whole}
+use Rattle.natural.specs.Laws.{settled-whole}
 use Rattle.natural.proofs.natural_weights.Statement.{statement}
 use Rattle.natural.proofs.natural_weights.Tie as tie
 
@@ -29,22 +27,13 @@ natural-shares-requires c κs =
     let y = c .before .before .room2 .ensures in
     (s .pre .0, (s .pre .1 .0, (s .pre .1 .1 .0, (omega arith, omega arith))))
 
-returns : tie.Need-returns
-returns c =
-    let n = c .before .before .before in
-    let s = c .before .before .before .before .before .before .before .before .before .before .before .before .before in
-    let list = s .args .list .now in
-    let g = chartOf (s .args .vertices .now) (s .args .edges .now) (s .args .faces .now) in
-    settled-broken (n .natural-shares .result) (take (length list) (n .natural-shares .last .1 .1 .1 .1 .1 .0)) (sharesOf g (s .args .q) list)
-    (map (g .origin) list) (s .args .owners .now) (s .args .weights .now) (c .if1 .taken) (n .natural-shares .ensures)
-
 slice-aggregate-copy-out : tie.Need-slice-aggregate-copy-out
 slice-aggregate-copy-out c = search needs
 
 copy-out-requires : tie.Need-copy-out-requires
 copy-out-requires c κs =
-    let s = c .before .before .before .before .before .before .before .before .before .before .before .before .before .before .before .before in
-    let x = c .before .before .before .before .before .xs2 .given in
+    let s = c .before .before .before .before .before .before .before .before .before .before .before .before .before .before .before in
+    let x = c .before .before .before .before .xs2 .given in
     let k = s .pre .1 .1 .0 .few in
     (s .pre .1 .1 .0 .below, (s .pre .1 .1 .0 .few, (omega arith, (s .pre .1 .1 .1 .0, s .pre .1 .1 .1 .1))))
 
@@ -54,18 +43,18 @@ same-length c = search needs
 same-length-2 : tie.Need-same-length-2
 same-length-2 c = search needs
 
-returns-2 : tie.Need-returns-2
-returns-2 c =
+returns : tie.Need-returns
+returns c =
     let w = c .before .before .before .before .copy-out .ensures in
-    let n = c .before .before .before .before .before .before .before .before .before .before .before in
-    let s = c .before .before .before .before .before .before .before .before .before .before .before .before .before .before .before .before .before .before .before .before .before in
+    let n = c .before .before .before .before .before .before .before .before .before .before in
+    let s = c .before .before .before .before .before .before .before .before .before .before .before .before .before .before .before .before .before .before .before .before in
     let list = s .args .list .now in
     let g = chartOf (s .args .vertices .now) (s .args .edges .now) (s .args .faces .now) in
-    let x = c .before .before .before .before .before .before .before .before .before .before .xs2 .given in
+    let x = c .before .before .before .before .before .before .before .before .before .xs2 .given in
     let k = s .pre .1 .1 .0 .few in
     rw (w .0, w .1)
-    (settled-whole (n .natural-shares .result) (n .natural-shares .last .1 .1 .1 .1 .1 .0) (sharesOf g (s .args .q) list) (g .origin) list
-    (s .args .owners .now) (s .args .weights .now) (c .before .before .before .before .before .before .before .before .if1 .left) (n .natural-shares .ensures) (omega arith))
+    (settled-whole (n .natural-shares .last .1 .1 .1 .1 .1 .0) (sharesOf g (s .args .q) list) (g .origin) list
+    (s .args .owners .now) (s .args .weights .now) (n .natural-shares .ensures) (omega arith))
 
 pub natural-weights-spec : {M : Type 1} → statement M
 natural-weights-spec =
@@ -76,9 +65,8 @@ natural-weights-spec =
     slice-aggregate-natural-shares
     slice-aggregate-natural-shares-2
     natural-shares-requires
-    returns
     slice-aggregate-copy-out
     copy-out-requires
     same-length
     same-length-2
-    returns-2)
+    returns)

@@ -8,7 +8,7 @@ use lib.ListN.{length, take, drop, length-set}
 use Rattle.chart.specs.Tables.{rows}
 use Rattle.chart.specs.Chart.{chartOf}
 use Rattle.natural.specs.Natural.{sharesFrom, cellShares}
-use Rattle.natural.specs.Laws.{shares-broken, shares-on, shares-end}
+use Rattle.natural.specs.Laws.{shares-on, shares-end}
 use Rattle.natural.specs.Arrays.{cornerX, Holds, holds-past, corner-back, area-next}
 use Rattle.natural.proofs.turn_all.Statement.{statement}
 use Rattle.natural.proofs.turn_all.Tie as tie
@@ -76,29 +76,6 @@ turn-about-requires c κs =
     let l = c .before .before .before .before .loop in
     (s .pre .0, (s .pre .1 .0 .below (l .i) (omega arith), l .inv .2))
 
-enum-known-area : tie.Need-enum-known-area Inv-loop μ-loop
-enum-known-area c = search needs
-
-enum-told : tie.Need-enum-told Inv-loop μ-loop
-enum-told c = search needs
-
-same-length : tie.Need-same-length Inv-loop μ-loop
-same-length c = c .before .before .before .before .before .before .before .loop .inv .1
-
-returns : tie.Need-returns Inv-loop μ-loop
-returns c =
-    let t = c .before .before in
-    let l = t .before .before .before .before .before .loop in
-    let s = c .before .before .before .before .before .before .before .before .before .before .before .before .before .before .before .before in
-    let g = chartOf (s .args .vertices .now) (s .args .edges .now) (s .args .faces .now) in
-    let list = s .args .list .now in
-    let h : l .i < length list = omega arith in
-    let p = corner-back g (s .args .q) list (l .i) (length list) (l .xs) (s .args .ys .now) (l .inv .3) (s .pre .1 .1 .1 .0) (l .i) (omega arith) h in
-    sym
-    (l .inv .4
-    ∙ shares-broken g (s .args .q) list (l .i) (l .edge) (l .last) (take (l .i) (l .xs)) (l .total) h _ p
-    (sym (t .turn-about .ensures) ∙ c .enum-told .given .1))
-
 mul-xs : tie.Need-mul-xs Inv-loop μ-loop
 mul-xs c = search needs
 
@@ -113,12 +90,12 @@ loop-less c = search needs
 
 loop-again : tie.Need-loop-again Inv-loop μ-loop
 loop-again c =
-    let t = c .before .before .before in
+    let t = c in
     let l = t .before .before .before .before .before .loop in
-    let s = c .before .before .before .before .before .before .before .before .before .before .before .before .before .before .before .before .before in
+    let s = c .before .before .before .before .before .before .before .before .before .before .before .before .before .before in
     let g = chartOf (s .args .vertices .now) (s .args .edges .now) (s .args .faces .now) in
     let list = s .args .list .now in
-    let area = c .before .area .given .0 .0 in
+    let area = t .turn-about .result in
     let h : l .i < length list = omega arith in
     let hx : l .i < length (l .xs) = omega arith in
     let p = corner-back g (s .args .q) list (l .i) (length list) (l .xs) (s .args .ys .now) (l .inv .3) (s .pre .1 .1 .1 .0) (l .i) (omega arith) h in (
@@ -129,17 +106,17 @@ loop-again c =
       rw (area-next (l .xs) (l .i) area hx)
           (l .inv .4
           ∙ shares-on g (s .args .q) list (l .i) (l .edge) (l .last) (take (l .i) (l .xs)) (l .total) area h _ p
-          (sym (t .turn-about .ensures) ∙ c .before .area .given .1)),
+          (t .turn-about .ensures)),
     )
 
 divide-all-requires : tie.Need-divide-all-requires Inv-loop μ-loop
 divide-all-requires c κs = search needs
 
-same-length-2 : tie.Need-same-length-2 Inv-loop μ-loop
-same-length-2 c = search needs
+same-length : tie.Need-same-length Inv-loop μ-loop
+same-length c = search needs
 
-returns-2 : tie.Need-returns-2 Inv-loop μ-loop
-returns-2 c =
+returns : tie.Need-returns Inv-loop μ-loop
+returns c =
     let l = c .before .before .before .before .before .loop in
     let s = c .before .before .before .before .before .before .before .before .before .before .before .before .before .before in
     let g = chartOf (s .args .vertices .now) (s .args .edges .now) (s .args .faces .now) in
@@ -172,15 +149,11 @@ turn-all-spec =
     mul-t27
     shared-slice-read-t31
     turn-about-requires
-    enum-known-area
-    enum-told
-    same-length
-    returns
     mul-xs
     slice-write-xs
     add-i
     loop-less
     loop-again
     divide-all-requires
-    same-length-2
-    returns-2)
+    same-length
+    returns)

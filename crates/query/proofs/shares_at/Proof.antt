@@ -65,9 +65,6 @@ natural-weights-requires c κs =
       ),
     )
 
-settle-requires : tie.Need-settle-requires
-settle-requires c κs = search needs
-
 same-length : tie.Need-same-length
 same-length c = search needs
 
@@ -76,12 +73,12 @@ same-length-2 c = search needs
 
 returns : tie.Need-returns
 returns c =
-    let a = c .before .before .before .before .before .before .before .before .before .before .before .before .before .before .before .before .before .args in
+    let a = c .before .before .before .before .before .before .before .before .before .before .before .before .before .before .before .before .args in
     let n = (neighborsOf (chartOf (a .vertices .now) (a .edges .now) (a .faces .now)) (a .q) (a .place)) in
-    let f = c .before .before .before .before .before .before .before .before .before .before .get-natural-neighbor-edges in
+    let f = c .before .before .before .before .before .before .before .before .before .get-natural-neighbor-edges in
     let l = answer-edges n _ (f .result) _ (f .ensures) in
-    rw (c .settle .ensures, answer-count n _ (f .result) _ (f .ensures), answer-opened n _ (f .result) _ (f .ensures))
-    (ap (sharesSettled (length (n .edges)) (n .opened)) (c .before .before .before .before .before .natural-weights .ensures ∙ ap (λ (x : List ℕ). naturalWeightsOf (chartOf (a .vertices .now) (a .edges .now) (a .faces .now)) (a .q) x (a .owners .now) (a .weights .now)) l))
+    rw (answer-count n _ (f .result) _ (f .ensures), answer-opened n _ (f .result) _ (f .ensures))
+    (ap (sharesSettled (length (n .edges)) (n .opened)) (c .before .before .before .before .natural-weights .ensures ∙ ap (λ (x : List ℕ). naturalWeightsOf (chartOf (a .vertices .now) (a .edges .now) (a .faces .now)) (a .q) x (a .owners .now) (a .weights .now)) l))
 
 pub shares-at-spec : {M : Type 1} → statement M
 shares-at-spec =
@@ -93,7 +90,6 @@ shares-at-spec =
     array-share-prefix-list
     slice-aggregate-natural-weights
     natural-weights-requires
-    settle-requires
     same-length
     same-length-2
     returns)

@@ -12,7 +12,7 @@ use Rattle.neighbors.specs.Answers.{answer-count, answer-edges}
 use Rattle.interpolate.specs.Values.{Owners}
 use Rattle.cavity.specs.Room.{roomy, list-within}
 use Rattle.cavity.specs.Listed.{listed-below}
-use Rattle.values.specs.Value.{listed-owners, shares-broken, shares-whole}
+use Rattle.values.specs.Value.{listed-owners, shares-whole}
 use borrow.Author.Needs.{needs}
 use Rattle.values.proofs.natural_value.Statement.{statement}
 use Rattle.values.proofs.natural_value.Tie as tie
@@ -60,29 +60,11 @@ natural-shares-requires c κs =
       ),
     )
 
-same-length : tie.Need-same-length
-same-length c = search needs
-
-same-length-2 : tie.Need-same-length-2
-same-length-2 c = search needs
-
-same-length-3 : tie.Need-same-length-3
-same-length-3 c = search needs
-
-returns : tie.Need-returns
-returns c =
+to-origins-requires : tie.Need-to-origins-requires
+to-origins-requires c κs =
     let s = c .before .before .before .before .before .before .before .before .before .before .before .before .before .before .before .before .before .before .before in
     let a = s .args in
     let f = c .before .before .before .before .before .before .before .before .before .before .before .get-natural-neighbor-edges in
-    let e = answer-count (neighborsOf (chartOf (a .vertices .now) (a .edges .now) (a .faces .now)) (a .q) (a .place)) _ (f .result) _ (f .ensures) in
-    let w = list-within (chartOf (a .vertices .now) (a .edges .now) (a .faces .now)) (s .pre .0) (a .q) (a .place) (s .pre .1 .1 .0) in
-    sym (shares-broken (a .method) (chartOf (a .vertices .now) (a .edges .now) (a .faces .now)) (a .q) ((neighborsOf (chartOf (a .vertices .now) (a .edges .now) (a .faces .now)) (a .q) (a .place)) .edges) _ (answer-edges (neighborsOf (chartOf (a .vertices .now) (a .edges .now) (a .faces .now)) (a .q) (a .place)) _ (f .result) _ (f .ensures)) (c .before .before .before .before .before .natural-shares .result) _ (c .before .before .before .before .before .natural-shares .ensures) (c .if1 .taken))
-
-to-origins-requires : tie.Need-to-origins-requires
-to-origins-requires c κs =
-    let s = c .before .before .before .before .before .before .before .before .before .before .before .before .before .before .before .before .before .before .before .before in
-    let a = s .args in
-    let f = c .before .before .before .before .before .before .before .before .before .before .before .before .get-natural-neighbor-edges in
     let e = answer-count (neighborsOf (chartOf (a .vertices .now) (a .edges .now) (a .faces .now)) (a .q) (a .place)) _ (f .result) _ (f .ensures) in
     let w = list-within (chartOf (a .vertices .now) (a .edges .now) (a .faces .now)) (s .pre .0) (a .q) (a .place) (s .pre .1 .1 .0) in
     let list = f .last .1 .1 .1 .1 .1 .0 in
@@ -92,49 +74,49 @@ to-origins-requires c κs =
 
 slice-reshare-prefix-value-by : tie.Need-slice-reshare-prefix-value-by
 slice-reshare-prefix-value-by c =
-    let s = c .before .before .before .before .before .before .before .before .before .before .before .before .before .before .before .before .before .before .before .before .before .before .before in
+    let s = c .before .before .before .before .before .before .before .before .before .before .before .before .before .before .before .before .before .before .before .before .before .before in
     let a = s .args in
-    let f = c .before .before .before .before .before .before .before .before .before .before .before .before .before .before .before .get-natural-neighbor-edges in
+    let f = c .before .before .before .before .before .before .before .before .before .before .before .before .before .before .get-natural-neighbor-edges in
     let e = answer-count (neighborsOf (chartOf (a .vertices .now) (a .edges .now) (a .faces .now)) (a .q) (a .place)) _ (f .result) _ (f .ensures) in
     let w = list-within (chartOf (a .vertices .now) (a .edges .now) (a .faces .now)) (s .pre .0) (a .q) (a .place) (s .pre .1 .1 .0) in
     omega (arith, e, w, s .pre .0 .counts .e-most, s .pre .1 .1 .1 .0 .list-room, f .kept .1 .1 .1 .1 .1 .0, c .before .before .to-origins .kept .1 .0)
 
 slice-aggregate-value-by : tie.Need-slice-aggregate-value-by
 slice-aggregate-value-by c =
-    let s = c .before .before .before .before .before .before .before .before .before .before .before .before .before .before .before .before .before .before .before .before .before .before .before .before in
+    let s = c .before .before .before .before .before .before .before .before .before .before .before .before .before .before .before .before .before .before .before .before .before .before .before in
     let a = s .args in
-    let f = c .before .before .before .before .before .before .before .before .before .before .before .before .before .before .before .before .get-natural-neighbor-edges in
+    let f = c .before .before .before .before .before .before .before .before .before .before .before .before .before .before .before .get-natural-neighbor-edges in
     let e = answer-count (neighborsOf (chartOf (a .vertices .now) (a .edges .now) (a .faces .now)) (a .q) (a .place)) _ (f .result) _ (f .ensures) in
     let w = list-within (chartOf (a .vertices .now) (a .edges .now) (a .faces .now)) (s .pre .0) (a .q) (a .place) (s .pre .1 .1 .0) in
     sym (length-take-le _ _ (omega (arith, e, w, s .pre .0 .counts .e-most, s .pre .1 .1 .1 .0 .list-room, f .kept .1 .1 .1 .1 .1 .0, c .before .before .before .to-origins .kept .1 .0)))
 
 slice-reshare-prefix-value-by-2 : tie.Need-slice-reshare-prefix-value-by-2
 slice-reshare-prefix-value-by-2 c =
+    let s = c .before .before .before .before .before .before .before .before .before .before .before .before .before .before .before .before .before .before .before .before .before .before .before in
+    let a = s .args in
+    let f = c .before .before .before .before .before .before .before .before .before .before .before .before .before .before .before .get-natural-neighbor-edges in
+    let e = answer-count (neighborsOf (chartOf (a .vertices .now) (a .edges .now) (a .faces .now)) (a .q) (a .place)) _ (f .result) _ (f .ensures) in
+    let w = list-within (chartOf (a .vertices .now) (a .edges .now) (a .faces .now)) (s .pre .0) (a .q) (a .place) (s .pre .1 .1 .0) in
+    omega (arith, e, w, s .pre .0 .counts .e-most, s .pre .1 .1 .1 .0 .xs-room, c .before .before .before .before .before .before .before .before .before .natural-shares .kept .1 .1 .1 .1 .1 .0)
+
+slice-aggregate-value-by-2 : tie.Need-slice-aggregate-value-by-2
+slice-aggregate-value-by-2 c =
     let s = c .before .before .before .before .before .before .before .before .before .before .before .before .before .before .before .before .before .before .before .before .before .before .before .before in
     let a = s .args in
     let f = c .before .before .before .before .before .before .before .before .before .before .before .before .before .before .before .before .get-natural-neighbor-edges in
     let e = answer-count (neighborsOf (chartOf (a .vertices .now) (a .edges .now) (a .faces .now)) (a .q) (a .place)) _ (f .result) _ (f .ensures) in
     let w = list-within (chartOf (a .vertices .now) (a .edges .now) (a .faces .now)) (s .pre .0) (a .q) (a .place) (s .pre .1 .1 .0) in
-    omega (arith, e, w, s .pre .0 .counts .e-most, s .pre .1 .1 .1 .0 .xs-room, c .before .before .before .before .before .before .before .before .before .before .natural-shares .kept .1 .1 .1 .1 .1 .0)
-
-slice-aggregate-value-by-2 : tie.Need-slice-aggregate-value-by-2
-slice-aggregate-value-by-2 c =
-    let s = c .before .before .before .before .before .before .before .before .before .before .before .before .before .before .before .before .before .before .before .before .before .before .before .before .before in
-    let a = s .args in
-    let f = c .before .before .before .before .before .before .before .before .before .before .before .before .before .before .before .before .before .get-natural-neighbor-edges in
-    let e = answer-count (neighborsOf (chartOf (a .vertices .now) (a .edges .now) (a .faces .now)) (a .q) (a .place)) _ (f .result) _ (f .ensures) in
-    let w = list-within (chartOf (a .vertices .now) (a .edges .now) (a .faces .now)) (s .pre .0) (a .q) (a .place) (s .pre .1 .1 .0) in
-    sym (length-take-le _ _ (omega (arith, e, w, s .pre .0 .counts .e-most, s .pre .1 .1 .1 .0 .xs-room, c .before .before .before .before .before .before .before .before .before .before .before .natural-shares .kept .1 .1 .1 .1 .1 .0)))
+    sym (length-take-le _ _ (omega (arith, e, w, s .pre .0 .counts .e-most, s .pre .1 .1 .1 .0 .xs-room, c .before .before .before .before .before .before .before .before .before .before .natural-shares .kept .1 .1 .1 .1 .1 .0)))
 
 value-by-requires : tie.Need-value-by-requires
 value-by-requires c κs =
-    let s = c .before .before .before .before .before .before .before .before .before .before .before .before .before .before .before .before .before .before .before .before .before .before .before .before .before in
+    let s = c .before .before .before .before .before .before .before .before .before .before .before .before .before .before .before .before .before .before .before .before .before .before .before .before in
     let a = s .args in
-    let f = c .before .before .before .before .before .before .before .before .before .before .before .before .before .before .before .before .before .get-natural-neighbor-edges in
+    let f = c .before .before .before .before .before .before .before .before .before .before .before .before .before .before .before .before .get-natural-neighbor-edges in
     let e = answer-count (neighborsOf (chartOf (a .vertices .now) (a .edges .now) (a .faces .now)) (a .q) (a .place)) _ (f .result) _ (f .ensures) in
     let w = list-within (chartOf (a .vertices .now) (a .edges .now) (a .faces .now)) (s .pre .0) (a .q) (a .place) (s .pre .1 .1 .0) in
     let po = length-take-le (f .result .count) (c .before .before .before .before .to-origins .last .1 .0) (omega (arith, e, w, s .pre .0 .counts .e-most, s .pre .1 .1 .1 .0 .list-room, f .kept .1 .1 .1 .1 .1 .0, c .before .before .before .before .to-origins .kept .1 .0)) in
-    let pw = length-take-le (f .result .count) (c .before .before .before .before .before .before .before .before .before .before .before .natural-shares .last .1 .1 .1 .1 .1 .0) (omega (arith, e, w, s .pre .0 .counts .e-most, s .pre .1 .1 .1 .0 .xs-room, c .before .before .before .before .before .before .before .before .before .before .before .natural-shares .kept .1 .1 .1 .1 .1 .0)) in (
+    let pw = length-take-le (f .result .count) (c .before .before .before .before .before .before .before .before .before .before .natural-shares .last .1 .1 .1 .1 .1 .0) (omega (arith, e, w, s .pre .0 .counts .e-most, s .pre .1 .1 .1 .0 .xs-room, c .before .before .before .before .before .before .before .before .before .before .natural-shares .kept .1 .1 .1 .1 .1 .0)) in (
       s .pre .0 .sound .range,
       (
         s .pre .0 .values,
@@ -151,24 +133,24 @@ value-by-requires c κs =
       ),
     )
 
-same-length-4 : tie.Need-same-length-4
-same-length-4 c = search needs
+same-length : tie.Need-same-length
+same-length c = search needs
 
-same-length-5 : tie.Need-same-length-5
-same-length-5 c = search needs
+same-length-2 : tie.Need-same-length-2
+same-length-2 c = search needs
 
-same-length-6 : tie.Need-same-length-6
-same-length-6 c = search needs
+same-length-3 : tie.Need-same-length-3
+same-length-3 c = search needs
 
-returns-2 : tie.Need-returns-2
-returns-2 c =
-    let s = c .before .before .before .before .before .before .before .before .before .before .before .before .before .before .before .before .before .before .before .before .before .before .before .before .before .before in
+returns : tie.Need-returns
+returns c =
+    let s = c .before .before .before .before .before .before .before .before .before .before .before .before .before .before .before .before .before .before .before .before .before .before .before .before .before in
     let a = s .args in
-    let f = c .before .before .before .before .before .before .before .before .before .before .before .before .before .before .before .before .before .before .get-natural-neighbor-edges in
+    let f = c .before .before .before .before .before .before .before .before .before .before .before .before .before .before .before .before .before .get-natural-neighbor-edges in
     let e = answer-count (neighborsOf (chartOf (a .vertices .now) (a .edges .now) (a .faces .now)) (a .q) (a .place)) _ (f .result) _ (f .ensures) in
     let w = list-within (chartOf (a .vertices .now) (a .edges .now) (a .faces .now)) (s .pre .0) (a .q) (a .place) (s .pre .1 .1 .0) in
     let n = length-take-le (f .result .count) (f .last .1 .1 .1 .1 .1 .0) (omega (arith, e, w, s .pre .0 .counts .e-most, s .pre .1 .1 .1 .0 .list-room, f .kept .1 .1 .1 .1 .1 .0)) in
-    rw (c .value-by .ensures) (sym (shares-whole (a .method) (chartOf (a .vertices .now) (a .edges .now) (a .faces .now)) (a .q) ((neighborsOf (chartOf (a .vertices .now) (a .edges .now) (a .faces .now)) (a .q) (a .place)) .edges) _ (answer-edges (neighborsOf (chartOf (a .vertices .now) (a .edges .now) (a .faces .now)) (a .q) (a .place)) _ (f .result) _ (f .ensures)) (c .before .before .before .before .before .before .before .before .before .before .before .before .natural-shares .result) _ (c .before .before .before .before .before .before .before .before .before .before .before .before .natural-shares .ensures) (f .result .count) _ (c .before .before .before .before .before .before .before .if1 .left) n (c .before .before .before .before .before .to-origins .ensures)))
+    rw (c .value-by .ensures) (sym (shares-whole (a .method) (chartOf (a .vertices .now) (a .edges .now) (a .faces .now)) (a .q) ((neighborsOf (chartOf (a .vertices .now) (a .edges .now) (a .faces .now)) (a .q) (a .place)) .edges) _ (answer-edges (neighborsOf (chartOf (a .vertices .now) (a .edges .now) (a .faces .now)) (a .q) (a .place)) _ (f .result) _ (f .ensures)) _ (c .before .before .before .before .before .before .before .before .before .before .before .natural-shares .ensures) (f .result .count) _ n (c .before .before .before .before .before .to-origins .ensures)))
 
 pub natural-value-spec : {M : Type 1} → statement M
 natural-value-spec =
@@ -178,17 +160,13 @@ natural-value-spec =
     slice-reshare-prefix-natural-shares
     slice-aggregate-natural-shares
     natural-shares-requires
-    same-length
-    same-length-2
-    same-length-3
-    returns
     to-origins-requires
     slice-reshare-prefix-value-by
     slice-aggregate-value-by
     slice-reshare-prefix-value-by-2
     slice-aggregate-value-by-2
     value-by-requires
-    same-length-4
-    same-length-5
-    same-length-6
-    returns-2)
+    same-length
+    same-length-2
+    same-length-3
+    returns)
