@@ -39,7 +39,7 @@ impl Only {
     }
 }
 
-/// Set while a body of the sources runs under guard: its panic is an answer, and nothing to report.
+/// Set while a body of the sources runs under guard, which reports its panic.
 static GUARDED: AtomicBool = AtomicBool::new(false);
 
 struct Test {
@@ -110,6 +110,7 @@ type Edges = Result<(usize, Vec<usize>), u32>;
 type Shares = Result<(usize, Vec<(usize, f64)>), u32>;
 
 const NO_PLACE: &str = "CR 2: a load without a place";
+const BROKEN_TURN: &str = "CR 11: the unmodified Rust panicked (a broken turn, or no end)";
 
 impl Oracle {
     fn new(c: &Chart) -> Self {
@@ -122,18 +123,15 @@ impl Oracle {
         Oracle { tri, half: c.half.len(), gradients, anomalies: Vec::new() }
     }
 
-    /// Runs a body of the sources under fuel; a panic there is a broken turn (15), and an anomaly.
-    fn guarded<R>(&mut self, what: &str, f: impl FnOnce(&Tri) -> R) -> Result<R, u32> {
+    /// Runs a body of the sources under fuel. No turn is broken on an accepted chart (02, CR 11): a panic there, or no end, ends the run.
+    fn guarded<R>(&self, what: &str, x: i64, y: i64, f: impl FnOnce(&Tri) -> R) -> R {
         robust::log_start(8 * self.half as u64 + 64);
         num_traits::set_fuel(16 * (self.half as u64 + 64) * (self.half as u64 + 64));
         GUARDED.store(true, Ordering::Relaxed);
         let r = catch_unwind(AssertUnwindSafe(|| f(&self.tri)));
         GUARDED.store(false, Ordering::Relaxed);
         num_traits::set_fuel(u64::MAX);
-        r.map_err(|_| {
-            self.anomalies.push(format!("{what}: the unmodified Rust panicked (broken turn or no end)"));
-            15
-        })
+        r.unwrap_or_else(|_| panic!("{BROKEN_TURN}: {what} {x} {y}"))
     }
 
     /// Ok: a place inside; Err: 13 or 14. Every load on the grid has a place or is outside (02, CR 2).
@@ -164,28 +162,28 @@ impl Oracle {
     fn barycentric(&mut self, x: i64, y: i64) -> Weights {
         self.place(x, y)?;
         let p = Point2::new(x as f64, y as f64);
-        self.guarded("barycentric", |t| {
+        Ok(self.guarded("barycentric", x, y, |t| {
             let mut r = Vec::new();
             t.barycentric().get_weights(p, &mut r);
             r.into_iter().map(|(v, w)| (v.index(), w)).collect()
-        })
+        }))
     }
 
     fn edges(&mut self, x: i64, y: i64) -> Edges {
         let place = self.place(x, y)?;
         let p = Point2::new(x as f64, y as f64);
-        let e = self.guarded("edges", |t| oracle_edges(t, p).iter().map(|e| e.index()).collect())?;
+        let e = self.guarded("edges", x, y, |t| oracle_edges(t, p).iter().map(|e| e.index()).collect());
         Ok((self.opened("edges", place, x, y), e))
     }
 
     fn natural(&mut self, x: i64, y: i64) -> Shares {
         let place = self.place(x, y)?;
         let p = Point2::new(x as f64, y as f64);
-        let w = self.guarded("natural", |t| {
+        let w = self.guarded("natural", x, y, |t| {
             let mut r = Vec::new();
             t.natural_neighbor().get_weights(p, &mut r);
             r.into_iter().map(|(v, w)| (v.index(), w)).collect()
-        })?;
+        });
         Ok((self.opened("natural", place, x, y), w))
     }
 
@@ -213,7 +211,7 @@ impl Oracle {
         self.place(x, y)?;
         let p = Point2::new(x as f64, y as f64);
         let g = self.gradients.clone();
-        self.guarded("value", |t| {
+        Ok(self.guarded("value", x, y, |t| {
             let nn = t.natural_neighbor();
             match method {
                 1 => t.barycentric().interpolate(|v| v.data().value, p),
@@ -221,7 +219,7 @@ impl Oracle {
                 _ => nn.interpolate_gradient(|v| v.data().value, |v| g[v.index()], 1.0, p),
             }
             .unwrap()
-        })
+        }))
     }
 
     fn answers(&mut self, queries: &[(i64, i64)], only: &Only) -> String {
@@ -326,7 +324,7 @@ impl Book {
             self.bends[s] = 0;
             return Ok(0);
         }
-        let n = charge(o.value(x, y, method)?)?; // 12 (method), 13, 14, 15, then 16
+        let n = charge(o.value(x, y, method)?)?; // 12 (method), 13, 14, then 16
         if self.total() + n as u128 > FULL as u128 || self.bends[s] == FULL {
             return Err(17);
         }
@@ -496,7 +494,7 @@ fn main() {
             let rooms = a.get(4).map_or(Vec::new(), |p| numbers(p.as_ref()));
             print!("{}", answers(&file(2), &queries(a[3].as_ref()), &rooms, &only).0)
         }
-        // answers on a chart that 8 to 11 may refuse: shows that the oracle notices broken turns and second openings
+        // answers on a chart that 8 to 11 may refuse: shows that the oracle notices second openings, and ends at a broken turn
         Some("force") => match chart::read_loose(&file(2)) {
             Err(n) => println!("verdict {n}"),
             Ok(c) => print!("verdict 0\n{}", Oracle::new(&c).answers(&queries(a[3].as_ref()), &Only(None))),

@@ -3,8 +3,8 @@
 
 Exact parts (predicates, gradient sums, circumcentre numerators) are Python whole numbers, the float parts
 are Python floats (IEEE 754 doubles, no fused operations), in the order of operations of the sources.
-It has 01's additions (a face is opened once; the broken turn); the Rust has not: where the two agree
-the additions made no difference.
+It has 01's addition (a face is opened once); the Rust has not: where the two agree it made no difference. A broken
+turn, which 02 (CR 11) says is never met, ends the run.
 
     second.py suite [--only KINDS] DIR   recompute every case of DIR and compare with the files the Rust oracle wrote
                                          (--only: answers.txt alone, with these kinds of lines, as the oracle's option)
@@ -198,6 +198,12 @@ def natural_edges(c, q):
     if kind == 'outside': return 14
     if kind == 'vertex': return 'ok', 0, [c.v[n][3]]
     if kind == 'edge' and 0 in (c.face(n), c.face(n ^ 1)): return 'ok', 0, [n, n ^ 1]
+    opened, edges = search(c, q, kind, n)
+    return 'ok', len(opened), edges
+
+
+def search(c, q, kind, n):
+    """The faces opened and the edges listed from a face or an inner edge."""
     opened, out = set(), []
     if kind == 'face':
         opened.add(n)
@@ -216,7 +222,7 @@ def natural_edges(c, q):
 
     for h in starts:
         visit(h)
-    return 'ok', len(opened), out[::-1]
+    return opened, out[::-1]
 
 
 def div(a, b):
@@ -264,13 +270,11 @@ def barycentric(c, q):
 def natural(c, q):
     """(opened, weights) or a refusal number."""
     e = natural_edges(c, q)
-    if not isinstance(e, tuple): return e
-    w = shares(c, q, e[2])
-    return (e[1], w) if isinstance(w, list) else w
+    return (e[1], shares(c, q, e[2])) if isinstance(e, tuple) else e
 
 
 def shares(c, q, es):
-    """The natural weights by the listed edges, or 15."""
+    """The natural weights by the listed edges."""
     if len(es) == 1: return [(c.org(es[0]), 1.0)]
     if len(es) == 2: return two_points(c, es[0], q)
     rel = lambda p: (p[0] - q[0], p[1] - q[1])
@@ -282,7 +286,7 @@ def shares(c, q, es):
         steps = 0
         while True:
             steps += 1
-            if c.face(cur) == 0 or steps > len(c.h): return 15
+            assert c.face(cur) != 0 and steps <= len(c.h), 'CR 11: a broken turn at %r' % (q,)
             m = centre(*[rel(p) for p in c.corners(c.face(cur))])
             pos, neg = pos + last[0] * m[1], neg + last[1] * m[0]
             cur, last = c.nxt(cur) ^ 1, m

@@ -7,7 +7,8 @@ use mathlib.Core.List.{List, [], _∷_, map, reverse, append-nil}
 use Prim.Native.Nat.{ℕ, zero, suc, _<_, _≤_}
 use native.Mathlib.Omega.{arith}
 use lib.Dec.{eqb, ltb}
-use lib.IntN.{ℤ}
+use lib.IntN.{ℤ, pos}
+use lib.Signed.{ltZ}
 use borrow.Author.Tests.{eqb-false, ltb-true, lt-ltb, not-true}
 use Rattle.whole.specs.Bools.{and-true, and-both, or-false, same-test}
 use Rattle.faceset.specs.Set.{none, add, one, countBelow}
@@ -55,6 +56,14 @@ OnInnerEdge c q = (h : ℕ) × (h < c .halfEdges) × (partOfConvexHull c h ≡ f
 abbrev pub Amid : Chart → Place → Type 0
 Amid c q = InSomeFace c q ⊎ OnInnerEdge c q
 
+-- a load on a face's circle is not held by it
+neither : (b : Bool) → (b && false) ≡ false
+neither true = refl
+neither false = refl
+
+pub on-circle : (c : Chart) (q : Place) (f : ℕ) → circle (c .place (corner₀ c f)) (c .place (corner₁ c f)) (c .place (corner₂ c f)) q ≡ pos 0 → holding c q f ≡ false
+on-circle c q f e = ap (λ (z : ℤ). ltb 0 f && ltZ (pos 0) z) e ∙ neither (ltb 0 f)
+
 -- of what a search has found, and of the answer that is made of it
 pub record Neighbourhood (c : Chart) (q : Place) (w : Found) (n : Neighbors) : Type 0 where
   -- "the faces opened are all the faces whose circle strictly holds the load, and no others"
@@ -86,6 +95,14 @@ module _ (c : Chart) (acc : Accepted c) (q : Place) where
 
   inner-adjacent : (f : ℕ) → 0 < f → f < c .faces → Inner c (c .adjacent f)
   inner-adjacent f z l = (snd .range .adjacents f l, λ e. let y : f ≡ 0 = sym (snd .adjacent-face f l) ∙ e in omega arith)
+
+  -- the face that the load is in is one of those that hold it
+  pub face-held : (f : ℕ) → f < c .faces → inFace c q f ≡ true → holding c q f ≡ true
+  face-held f l e =
+      let i = face-to c q f l e in
+      let a = inner-adjacent f (i .inner) l in
+      and-both (ltb 0 f) (inCircle c q f) (lt-ltb 0 f (i .inner))
+      (pos-test (subst Pos (Wn.circ-prev c snd q (c .adjacent f) (a .0) (a .1) ∙ sym (face-circ f)) (seat-hole c snd q (c .prev (c .adjacent f)) (face-seat c snd q f i))))
 
   -- ---- at the end of a search
   module _ (g : ℕ) (seat : Seat c snd q g) (w : Found) (m : Moment c snd q g [] w) (fan : Fan c snd q (ringOf [] w)) where
