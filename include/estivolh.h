@@ -1,8 +1,12 @@
-/* The public calls of Estivolh for C: wear charts and the rope book. Version 1.3.0.
+/* The public calls of Estivolh for C: wear charts and the rope book. Version 1.4.0.
  *
  * Link libestivolh_c.a (rt staticlib estivolh_c writes it, for x86-64 Linux); of the C library it needs memcpy and memset.
  *
- * NEW IN 1.3.0, and it breaks callers' source where they name it: ESTIVOLH_REFUSED_NO_PLACE is now ESTIVOLH_REFUSED_BROKEN_TURN. Its number
+ * NEW IN 1.4.0, and it breaks callers' source where they name it: ESTIVOLH_REFUSED_BROKEN_TURN is gone, and no call returns 15. No turn about
+ * a natural neighbour is broken, so that estivolh_natural_neighbor_weights, and values and bends by methods 2 and 3, are refused for the same
+ * reasons as by method 1. A caller takes out what it did on 15: it never came to it. All else is as in 1.3.0: what is compiled already links
+ * and runs as before. CHANGELOG.md.
+ * NEW IN 1.3.0, and it broke callers' source where they named it: ESTIVOLH_REFUSED_NO_PLACE is now ESTIVOLH_REFUSED_BROKEN_TURN. Its number
  * is 15 as before, and a broken turn is all that it means: every load on an accepted chart has a place, so that estivolh_locate,
  * estivolh_barycentric_weights, estivolh_natural_neighbor_edges and values by method 1 never return it. All else is as in 1.2.1: what is
  * compiled already links and runs as before. CHANGELOG.md.
@@ -52,7 +56,7 @@ extern "C" {
 #endif
 
 /* The version of this header and the library: 10000 * major + 100 * minor + patch. */
-#define ESTIVOLH_VERSION 10300
+#define ESTIVOLH_VERSION 10400
 
 /* Whoever drops a call's number takes a refused call for an accepted one, so a compiler that can is told to warn. */
 #if defined(__GNUC__)
@@ -62,7 +66,8 @@ extern "C" {
 #endif
 
 /* What a call returns: 0, or why it is refused, in the order in which the refusals are tried (docs/DECISIONS.md, first row, says where 2 and
- * 3 stand). An entry of a batch that is refused alone is answered ESTIVOLH_ENTRY_REFUSED plus the number, 12 to 17. */
+ * 3 stand). An entry of a batch that is refused alone is answered ESTIVOLH_ENTRY_REFUSED plus the number: 12, 13, 14, 16 or 17. There is no
+ * 15: until 1.3.0 it was said of a turn that is broken, and none is. */
 enum estivolh_refusal {
     ESTIVOLH_ACCEPTED = 0,
     ESTIVOLH_REFUSED_BOOK = 1,          /* sections not 1 to 16; wear and retired wear together, or a bend count, above 10^12; a section
@@ -81,7 +86,6 @@ enum estivolh_refusal {
     ESTIVOLH_REFUSED_UNKNOWN = 12,      /* a kind, section, vertex number or method that is unknown; a splice whose x, y or method isn't 0 */
     ESTIVOLH_REFUSED_OFF_GRID = 13,     /* x or y not -10000 to 10000 */
     ESTIVOLH_REFUSED_OUTSIDE = 14,      /* outside the chart's hull; of estivolh_locate it is an answer, ESTIVOLH_OUTSIDE_OF_HULL */
-    ESTIVOLH_REFUSED_BROKEN_TURN = 15,  /* a broken turn about a natural neighbour: natural weights, and values by methods 2 and 3, alone */
     ESTIVOLH_REFUSED_NO_CHARGE = 16,    /* the value is not a number, below -0.5, or at least 1000000.5 */
     ESTIVOLH_REFUSED_FULL = 17,         /* the charge would take wear and retired wear together above 10^12, or the section has 10^12 bends */
     ESTIVOLH_REFUSED_TEXT_ROOM = 18     /* the lent buffer is shorter than the text */
@@ -146,7 +150,7 @@ uint64_t estivolh_natural_neighbor_edges(const uint8_t *chart, size_t chart_leng
 /* The natural neighbour weights of the load at (x, y). found has a stated length of 2. vertices and weights must have as many elements as
  * the chart has half-edges: 2 is tested for them right after 4.
  * Writes found[0], how many vertices there are, n, and found[1], how many faces the search opened; the vertices into the first n elements
- * of vertices, their weights into the first n of weights. Refusals: 2, 3 to 11, 13, 14, 15. */
+ * of vertices, their weights into the first n of weights. Refusals: 2, 3 to 11, 13, 14. */
 ESTIVOLH_MUST_CHECK
 uint64_t estivolh_natural_neighbor_weights(const uint8_t *chart, size_t chart_length, int64_t x, int64_t y, uint64_t *vertices,
                                            size_t vertices_length, double *weights, size_t weights_length, uint64_t *found,
@@ -160,7 +164,7 @@ uint64_t estivolh_estimate_gradient(const uint8_t *chart, size_t chart_length, u
 
 /* The wear of a bend at (x, y), by a method (enum estivolh_method). value has a stated length of 1.
  * Writes value[0], the wear, not rounded; it may be one that estivolh_charge refuses with 16.
- * Refusals: 2, 3 to 11, 12 (method unknown), 13, 14; by methods 2 and 3 also 15. */
+ * Refusals: 2, 3 to 11, 12 (method unknown), 13, 14. */
 ESTIVOLH_MUST_CHECK
 uint64_t estivolh_interpolate(const uint8_t *chart, size_t chart_length, int64_t method, int64_t x, int64_t y, double *value,
                               size_t value_length);

@@ -186,24 +186,35 @@ static uint64_t in_square(int64_t x, int64_t y) {
     return sides == 2 ? ESTIVOLH_ON_VERTEX : sides == 1 || x == y ? ESTIVOLH_ON_EDGE : ESTIVOLH_ON_FACE;
 }
 
-/* Every load has a place: on the chart no call refuses it, and outside all but estivolh_locate give 14 (02, CR 2). */
-static void placed(const uint8_t *text, size_t bytes, int64_t x, int64_t y, uint64_t kind) {
+/* Every load has a place: on the chart no call refuses it, by any method, and outside all but estivolh_locate give 14 (02, CR 2 and CR 11). In a
+ * face, or on the square's diagonal, the faces opened are those whose circle holds the load, and all do here; the edges are the chart's sides,
+ * half-edges 0, 2, 4 and, of the square, 6, each once, in a ring. */
+static void placed(const uint8_t *text, size_t bytes, int64_t x, int64_t y, uint64_t kind, uint64_t sides, int inner) {
     uint64_t refusal = kind == ESTIVOLH_OUTSIDE_OF_HULL ? ESTIVOLH_REFUSED_OUTSIDE : ESTIVOLH_ACCEPTED;
-    uint64_t p[2], v[3], c[2], e[12];
-    double w[3], value[1];
+    uint64_t p[2], v[12], c[2], e[12], m[2];
+    double w[12], value[1];
     EXPECT(estivolh_locate(text, bytes, x, y, p, 2) == 0 && p[0] == kind);
     EXPECT(estivolh_barycentric_weights(text, bytes, x, y, v, 3, w, 3, c, 1) == refusal && (refusal != 0 || c[0] == kind));
+    for (int64_t method = ESTIVOLH_BARYCENTRIC; method <= ESTIVOLH_GRADIENTS; method++) {
+        EXPECT(estivolh_interpolate(text, bytes, method, x, y, value, 1) == refusal);
+    }
     EXPECT(estivolh_natural_neighbor_edges(text, bytes, x, y, e, 12, c, 2) == refusal);
-    EXPECT(estivolh_interpolate(text, bytes, ESTIVOLH_BARYCENTRIC, x, y, value, 1) == refusal);
+    EXPECT(estivolh_natural_neighbor_weights(text, bytes, x, y, v, 12, w, 12, m, 2) == refusal);
+    if (inner) {
+        EXPECT(c[0] == sides && c[1] == sides - 2 && m[0] == c[0] && m[1] == c[1]);
+        for (uint64_t i = 0; i < sides; i++) {
+            EXPECT(e[i] % 2 == 0 && e[i] < 2 * sides && e[(i + 1) % sides] == (e[i] + 2) % (2 * sides) && v[i] == e[i] / 2);
+        }
+    }
 }
 static void places(void) {
     for (int64_t x = -2; x <= 12; x++) {
         for (int64_t y = -2; y <= 12; y++) {
-            placed(chart, size, x, y, in_triangle(x, y));
-            placed(square_chart, square_size, x, y, in_square(x, y));
+            uint64_t t = in_triangle(x, y), s = in_square(x, y);
+            placed(chart, size, x, y, t, 3, t == ESTIVOLH_ON_FACE);
+            placed(square_chart, square_size, x, y, s, 4, s == ESTIVOLH_ON_FACE || (s == ESTIVOLH_ON_EDGE && x == y));
         }
     }
-    EXPECT(ESTIVOLH_REFUSED_BROKEN_TURN == 15);
 }
 
 static void charge(void) {

@@ -1,6 +1,6 @@
 -- A fact of each number of a list. Assumes nothing.
 use mathlib.Core.Path.{sym, subst}
-use mathlib.Core.List.{List, [], _∷_, _++_, reverse, reverse-cons}
+use mathlib.Core.List.{List, [], _∷_, _++_, map, reverse, reverse-cons}
 use Prim.Native.Nat.{ℕ, zero, suc, _<_}
 use native.Mathlib.Nat.{not-suc-le-zero, le-of-suc-le-suc}
 use lib.ListN.{length, getD}
@@ -32,6 +32,11 @@ each-tail (also p a) = a
 pub each-reverse : {P : ℕ → Type 0} (l : List ℕ) → Each P l → Each P (reverse l)
 each-reverse [] a = done
 each-reverse {P} (x ∷ l) (also p a) = subst (Each P) (sym (reverse-cons x l)) (each-append (each-reverse l a) (also p done))
+
+-- of what a function makes of each
+pub each-made : {P Q : ℕ → Type 0} (f : ℕ → ℕ) {l : List ℕ} → ((x : ℕ) → P x → Q (f x)) → Each P l → Each Q (map f l)
+each-made f h done = done
+each-made f h (also {x} p a) = also (h x p) (each-made f h a)
 
 -- by position
 pub each-at : {P : ℕ → Type 0} {l : List ℕ} → Each P l → (k : ℕ) → k < length l → P (getD l k 0)

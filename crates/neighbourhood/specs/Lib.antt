@@ -7,3 +7,4 @@ pub mod Simple
 pub mod Whole
 pub mod Neighbourhood
 pub mod Turns
+pub mod Few

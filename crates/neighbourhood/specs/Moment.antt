@@ -67,7 +67,7 @@ module _ (c : Chart) (snd : Sound c) (q : Place) (g : ℕ) where
       one-true (border c (w .opened) (partner e)) (omega arith)
 
   -- the face behind a border is not opened
-  unopened : (o : ℕ → Bool) (e : ℕ) → border c o (partner e) ≡ true → o (c .face e) ≡ false
+  pub unopened : (o : ℕ → Bool) (e : ℕ) → border c o (partner e) ≡ true → o (c .face e) ≡ false
   unopened o e b =
       ap (λ (k : ℕ). o (c .face k)) (sym (partner-twice e))
       ∙ not-true (o (c .face (partner (partner e)))) (and-true (o (c .face (partner e))) (not (o (c .face (partner (partner e))))) b .1)

@@ -2,7 +2,7 @@
 -- holds it, and the listed edges are their borders to the rest, each once, in a closed ring. Of the answer's own search. Assumes nothing.
 use mathlib.Core.Path.{_≡_, refl, sym, subst, ap, _∙_}
 use mathlib.Core.Logic.{_⊎_, inl, inr}
-use mathlib.Core.Bool.{Bool, true, false, not, cond, _&&_}
+use mathlib.Core.Bool.{Bool, true, false, not, cond, _&&_, false≢true}
 use mathlib.Core.List.{List, [], _∷_, map, reverse, append-nil}
 use Prim.Native.Nat.{ℕ, zero, suc, _<_, _≤_}
 use native.Mathlib.Omega.{arith}
@@ -30,7 +30,8 @@ use Rattle.flips.specs.Laws.{all-open}
 use Rattle.neighbors.specs.Neighbors.{Neighbors, finished, starts, faceSearch, edgeSearch, partOfConvexHull, searchOf, neighborsOf}
 use Rattle.neighbors.specs.Answers.{face-answer, edge-answer}
 use Rattle.neighbors.specs.Each.{Each, done, also, each-reverse}
-use Rattle.neighbors.specs.Counting.{All, search-leads}
+use Rattle.neighbors.specs.Counting.{Leads, All, search-leads}
+use Rattle.neighbors.specs.Counting.Leads.{stays, opens, lists}
 use Rattle.signs.specs.Signs.{Pos}
 use Rattle.signs.specs.Order.{test-pos, pos-test}
 use Rattle.nearby.specs.Windows as Wn
@@ -41,7 +42,7 @@ use Rattle.neighbourhood.specs.Rings.{times, many-reverse, each-standing
 use Rattle.neighbourhood.specs.Turning.{Turn, Follows}
 use Rattle.neighbourhood.specs.Seat.{Seat, face-seat, edge-seat, seat-hole}
 use Rattle.neighbourhood.specs.Opening.{border, ringOf, one-true, parts-flip}
-use Rattle.neighbourhood.specs.Moment.{Moment, kept, begins}
+use Rattle.neighbourhood.specs.Moment.{Moment, waits, unopened, kept, begins}
 use Rattle.neighbourhood.specs.Simple.{Fan, fan-reverse, fans, first-fan, origins-once}
 use Rattle.neighbourhood.specs.Whole as W
 
@@ -173,58 +174,79 @@ module _ (c : Chart) (acc : Accepted c) (q : Place) where
         rings : Ring (λ x y. Follows c (w .opened) (openedCount c (w .opened)) y x) (reverse (w .listed))
         rings = ring-back (Follows c (w .opened) (openedCount c (w .opened))) (w .listed) (subst (Ring (Follows c (w .opened) (openedCount c (w .opened)))) (append-nil (w .listed)) (m .ring))
 
-  -- ---- the searches
-  from-seat : (g : ℕ) (s : List ℕ) → Seat c snd q g → All c s → map partner s ≡ c .prev g ∷ c .next g ∷ g ∷ []
-      → let w = inspectAll c q s (found (add (c .face g) none) []) in Neighbourhood c q w (finished c w)
+  -- ---- the searches: where they start, from a face and from an inner edge, once its face is opened
+  record Begun (g : ℕ) (s : List ℕ) : Type 0 where
+    pub seat : Seat c snd q g
+    pub there : All c s
+    pub moment : Moment c snd q g s (found (add (c .face g) none) [])
+    pub fan : Fan c snd q (map partner s)
+
+  from-seat : (g : ℕ) (s : List ℕ) → Seat c snd q g → All c s → map partner s ≡ c .prev g ∷ c .next g ∷ g ∷ [] → Begun g s
   from-seat g s seat r e =
+      record { seat = seat; there = r; moment = begins c snd q g seat (seat-hole c snd q g seat) s e; fan = subst (Fan c snd q) (sym e) (first-fan c snd q g seat) }
+
+  begun-found : (g : ℕ) (s : List ℕ) → Begun g s → let w = inspectAll c q s (found (add (c .face g) none) []) in Neighbourhood c q w (finished c w)
+  begun-found g s b =
       let w = found (add (c .face g) none) [] in
-      let m = begins c snd q g seat (seat-hole c snd q g seat) s e in
-      let t = search-leads c q (snd .range) s w r in
-      ended g seat (inspectAll c q s w) (kept c snd q g t m) (fans c snd q g t m (subst (Fan c snd q) (sym e) (first-fan c snd q g seat)))
+      let t = search-leads c q (snd .range) s w (b .there) in
+      ended g (b .seat) (inspectAll c q s w) (kept c snd q g t (b .moment)) (fans c snd q g t (b .moment) (b .fan))
+
+  -- the face of a half-edge that waits is not opened yet, at no moment of the search
+  begun-once : (g : ℕ) (s : List ℕ) → Begun g s → (h : ℕ) (t : List ℕ) (v : Found) → Leads c q s (found (add (c .face g) none) []) (h ∷ t) v → h < c .halfEdges → v .opened (c .face h) ≡ false
+  begun-once g s b h t v m l = unopened c snd q g (v .opened) h (waits c snd q g h t v l (kept c snd q g m (b .moment)))
 
   -- from a face
-  face-found : (f : ℕ) → f < c .faces → inFace c q f ≡ true → Neighbourhood c q (faceSearch c q f) (finished c (faceSearch c q f))
-  face-found f l e =
-      subst (λ (k : ℕ). let w = inspectAll c q (starts c f) (found (add k none) []) in Neighbourhood c q w (finished c w)) (snd .prev-face h hl ∙ snd .adjacent-face f l)
-      (from-seat (c .prev h) (starts c f) (face-seat c snd q f (face-to c q f l e))
-      (also (partner-in (snd .range) (c .next h) (snd .range .nexts h hl)) (also (partner-in (snd .range) h hl) (also (partner-in (snd .range) (c .prev h) (snd .range .prevs h hl)) done)))
-      sides)
-    where
-      h : ℕ
-      h = c .adjacent f
+  module _ (f : ℕ) (l : f < c .faces) (e : inFace c q f ≡ true) where
+    abbrev a : ℕ
+    a = c .adjacent f
 
-      hl : h < c .halfEdges
-      hl = snd .range .adjacents f l
+    al : a < c .halfEdges
+    al = snd .range .adjacents f l
 
-      i : Inner c h
-      i = inner-adjacent f (face-to c q f l e .inner) l
+    own : c .face (c .prev a) ≡ f
+    own = snd .prev-face a al ∙ snd .adjacent-face f l
 
-      sides : map partner (starts c f) ≡ c .prev (c .prev h) ∷ c .next (c .prev h) ∷ c .prev h ∷ []
-      sides = rw (partner-twice (c .next h), partner-twice h, partner-twice (c .prev h), Wn.prev-prev c snd q h hl (i .1), snd .next-prev h hl)
+    face-begun : Begun (c .prev a) (starts c f)
+    face-begun =
+        from-seat (c .prev a) (starts c f) (face-seat c snd q f (face-to c q f l e))
+        (also (partner-in (snd .range) (c .next a) (snd .range .nexts a al)) (also (partner-in (snd .range) a al) (also (partner-in (snd .range) (c .prev a) (snd .range .prevs a al)) done)))
+        (rw (partner-twice (c .next a), partner-twice a, partner-twice (c .prev a), Wn.prev-prev c snd q a al (inner-adjacent f (face-to c q f l e .inner) l .1), snd .next-prev a al))
+
+    face-found : Neighbourhood c q (faceSearch c q f) (finished c (faceSearch c q f))
+    face-found =
+        subst (λ (k : ℕ). let w = inspectAll c q (starts c f) (found (add k none) []) in Neighbourhood c q w (finished c w)) own (begun-found (c .prev a) (starts c f) face-begun)
+
+    pub face-once : (h : ℕ) (t : List ℕ) (v : Found) → Leads c q (starts c f) (found (add f none) []) (h ∷ t) v → h < c .halfEdges → v .opened (c .face h) ≡ false
+    face-once h t v m =
+        begun-once (c .prev a) (starts c f) face-begun h t v (subst (λ (k : ℕ). Leads c q (starts c f) (found (add k none) []) (h ∷ t) v) (sym own) m)
 
   -- from an inner edge: its face is opened first
-  edge-found : (h : ℕ) → h < c .halfEdges → partOfConvexHull c h ≡ false → onEdge c q h ≡ true → Neighbourhood c q (edgeSearch c q h) (finished c (edgeSearch c q h))
-  unfolding none
-  edge-found h l n e =
-      subst (λ (w : Found). Neighbourhood c q w (finished c w)) (sym (all-open c q (snd .range) h (partner h ∷ []) (found none []) l flips))
-      (from-seat h (partner (c .prev h) ∷ partner (c .next h) ∷ partner h ∷ []) seat
-      (also (partner-in (snd .range) (c .prev h) (snd .range .prevs h l)) (also (partner-in (snd .range) (c .next h) (snd .range .nexts h l)) (also (partner-in (snd .range) h l) done)))
-      sides)
-    where
-      u : (outer c h ≡ false) × (outer c (partner h) ≡ false)
-      u = or-false (outer c h) (outer c (partner h)) n
+  module _ (h : ℕ) (l : h < c .halfEdges) (n : partOfConvexHull c h ≡ false) (e : onEdge c q h ≡ true) where
+    abbrev sides : List ℕ
+    sides = partner (c .prev h) ∷ partner (c .next h) ∷ partner h ∷ []
 
-      i : Inner c h
-      i = (l, eqb-false (c .face h) 0 (u .0))
+    inner : (c .face h ≡ 0 → ⊥) × (c .face (partner h) ≡ 0 → ⊥)
+    inner = let u = or-false (outer c h) (outer c (partner h)) n in (eqb-false (c .face h) 0 (u .0), eqb-false (c .face (partner h)) 0 (u .1))
 
-      seat : Seat c snd q h
-      seat = edge-seat c snd q h (edge-to c q h l e) (i .1) (eqb-false (c .face (partner h)) 0 (u .1))
+    edge-begun : Begun h sides
+    edge-begun =
+        from-seat h sides (edge-seat c snd q h (edge-to c q h l e) (inner .0) (inner .1))
+        (also (partner-in (snd .range) (c .prev h) (snd .range .prevs h l)) (also (partner-in (snd .range) (c .next h) (snd .range .nexts h l)) (also (partner-in (snd .range) h l) done)))
+        (rw (partner-twice (c .prev h), partner-twice (c .next h), partner-twice h))
 
-      flips : shouldFlip c q none h ≡ true
-      flips = parts-flip c snd q none h i refl (seat-hole c snd q h seat)
+    flips : shouldFlip c q none h ≡ true
+    unfolding none
+    flips = parts-flip c snd q none h (l, inner .0) refl (seat-hole c snd q h (edge-begun .seat))
 
-      sides : map partner (partner (c .prev h) ∷ partner (c .next h) ∷ partner h ∷ []) ≡ c .prev h ∷ c .next h ∷ h ∷ []
-      sides = rw (partner-twice (c .prev h), partner-twice (c .next h), partner-twice h)
+    edge-found : Neighbourhood c q (edgeSearch c q h) (finished c (edgeSearch c q h))
+    edge-found =
+        subst (λ (w : Found). Neighbourhood c q w (finished c w)) (sym (all-open c q (snd .range) h (partner h ∷ []) (found none []) l flips)) (begun-found h sides edge-begun)
+
+    pub edge-once : (k : ℕ) (t : List ℕ) (v : Found) → Leads c q (h ∷ partner h ∷ []) (found none []) (k ∷ t) v → k < c .halfEdges → v .opened (c .face k) ≡ false
+    unfolding none
+    edge-once k t v stays m = refl
+    edge-once k t v (opens i y r) m = begun-once h sides edge-begun k t v r m
+    edge-once k t v (lists y r) m = absurd (false≢true (sym y ∙ flips))
 
   -- ---- the answer
   abbrev At : Location → Type 0
@@ -239,7 +261,7 @@ module _ (c : Chart) (acc : Accepted c) (q : Place) where
       (subst (λ (w : Found). Neighbourhood c q w (finished c w)) (sym (ap (λ (b : Bool). cond b (found none []) (edgeSearch c q h)) n)) (edge-found h l n e))
 
   -- an inner edge by either of its half-edges
-  inner-too : (h k : ℕ) → partOfConvexHull c h ≡ false → (k ≡ h) ⊎ (k ≡ partner h) → partOfConvexHull c k ≡ false
+  pub inner-too : (h k : ℕ) → partOfConvexHull c h ≡ false → (k ≡ h) ⊎ (k ≡ partner h) → partOfConvexHull c k ≡ false
   inner-too h k n (inl e) = rw e n
   inner-too h k n (inr e) = let u = or-false (outer c h) (outer c (partner h)) n in rw (e, partner-twice h, u .0, u .1)
 

@@ -4,12 +4,14 @@ use mathlib.Core.Path.{_≡_, refl, sym, subst, ap, _∙_}
 use mathlib.Core.Logic.{⊎-elim}
 use mathlib.Core.Bool.{Bool, true, false}
 use mathlib.Core.List.{List, [], _∷_, _++_, map, reverse, append-nil, reverse-cons}
-use Prim.Native.Nat.{ℕ, _+_, _<_, _≤_}
+use Prim.Native.Nat.{ℕ, suc, _+_, _<_, _≤_}
 use native.Mathlib.Omega.{arith}
 use lib.Dec.{eqb}
+use lib.ListN.{length}
 use borrow.Author.Tests.{eqb-true, eq-eqb}
-use Rattle.faceset.specs.Set.{one}
-use Rattle.faceset.specs.Laws.{cases}
+use Rattle.whole.specs.Among.{among}
+use Rattle.faceset.specs.Set.{none, add, one, countBelow}
+use Rattle.faceset.specs.Laws.{cases, count-le, count-none, count-new, count-ext}
 use Rattle.neighbors.specs.Each.{Each, done, also}
 
 -- how many of a list pass a test
@@ -61,6 +63,26 @@ each-standing [] done h = done
 each-standing (y ∷ l) (also r a) h =
     let z : one (eqb y y) ≡ 1 = ap one (eq-eqb y y refl) in
     also (h y r (omega arith)) (each-standing l a (λ x s t. h x s (omega arith)))
+
+-- of different numbers below n there are n at most
+not-there : (x : ℕ) (l : List ℕ) → times x l ≡ 0 → among l x ≡ false
+unfolding howMany
+not-there x [] e = refl
+not-there x (y ∷ l) e =
+    ⊎-elim (λ (d : eqb x y ≡ true). let z : one (eqb x y) ≡ 1 = ap one d in absurd (omega arith))
+    (λ (d : eqb x y ≡ false). rw d (not-there x l (omega arith))) (cases (eqb x y))
+
+count-there : (n : ℕ) (l : List ℕ) → Each (λ x. x < n) l → ((v : ℕ) → v < n → times v l ≤ 1) → countBelow n (among l) ≡ length l
+unfolding howMany add none
+count-there n [] done h = count-ext n (among []) none (λ k m. refl) ∙ count-none n
+count-there n (x ∷ l) (also m a) h =
+    let z : one (eqb x x) ≡ 1 = ap one (eq-eqb x x refl) in
+    let y = h x m in
+    count-ext n (among (x ∷ l)) (add x (among l)) (λ k o. refl) ∙ count-new n x (among l) m (not-there x l (omega arith))
+    ∙ ap suc (count-there n l a (λ v o. omega (arith, h v o)))
+
+pub different-few : (n : ℕ) (l : List ℕ) → Each (λ x. x < n) l → ((v : ℕ) → v < n → times v l ≤ 1) → length l ≤ n
+different-few n l a h = omega (arith, count-there n l a h, count-le n (among l))
 
 -- a chain: from a through a list to b, each tied to the next
 pub data Chain (P : ℕ → ℕ → Type 0) : ℕ → List ℕ → ℕ → Type 0 where

@@ -6,7 +6,7 @@ use Prim.Native.Nat.{ℕ, zero, suc}
 use Rattle.chart.specs.Chart.{Chart, partner, partner-twice}
 use Rattle.sound.specs.Sound.{Sound, Inner}
 
--- within n steps the turn from y meets x: y's face is opened, and x is the next of y, or the turn goes on from the next's partner
+-- within n steps the turn from y is at x, through faces of o alone: x is the next of y, or the turn goes on from the next's partner
 abbrev pub Turn : Chart → (ℕ → Bool) → ℕ → ℕ → ℕ → Type 0
 Turn c o zero y x = ⊥
 Turn c o (suc n) y x = (o (c .face y) ≡ true) × ((c .next y ≡ x) ⊎ Turn c o n (partner (c .next y)) x)
