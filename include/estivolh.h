@@ -66,8 +66,7 @@ extern "C" {
 #endif
 
 /* What a call returns: 0, or why it is refused, in the order in which the refusals are tried (docs/DECISIONS.md, first row, says where 2 and
- * 3 stand). An entry of a batch that is refused alone is answered ESTIVOLH_ENTRY_REFUSED plus the number: 12, 13, 14, 16 or 17. There is no
- * 15: until 1.3.0 it was said of a turn that is broken, and none is. */
+ * 3 stand). An entry of a batch that is refused alone is answered ESTIVOLH_ENTRY_REFUSED plus the number: 12, 13, 14, 16 or 17. */
 enum estivolh_refusal {
     ESTIVOLH_ACCEPTED = 0,
     ESTIVOLH_REFUSED_BOOK = 1,          /* sections not 1 to 16; wear and retired wear together, or a bend count, above 10^12; a section

@@ -144,99 +144,99 @@ gradient-in (loaded vs es fs) v h = either (SlopeBy (ofChart ++ 12 ∷ [])) (ltb
 gradient-in (refused n) v h = among-within ofChart (ofChart ++ 12 ∷ []) refl n h
 
 -- ---- natural neighbours: 2 as well
-abbrev natural' : List ℕ
-natural' = 2 ∷ ofChart ++ 13 ∷ 14 ∷ []
+abbrev ofNatural : List ℕ
+ofNatural = 2 ∷ ofChart ++ 13 ∷ 14 ∷ []
 
-of-chart : (n : ℕ) → among ofChart n ≡ true → among natural' n ≡ true
-of-chart n h = among-within ofChart natural' refl n h
+of-chart : (n : ℕ) → among ofChart n ≡ true → among ofNatural n ≡ true
+of-chart n h = among-within ofChart ofNatural refl n h
 
-edges-from : (c : Chart) (q : Place) (l : Location) (lent : List ℕ) → TallyBy natural' (N.edgesFrom (placeRefusal l) c q l lent .answer)
+edges-from : (c : Chart) (q : Place) (l : Location) (lent : List ℕ) → TallyBy ofNatural (N.edgesFrom (placeRefusal l) c q l lent .answer)
 edges-from c q (OnVertex v) lent = tt
 edges-from c q (OnEdge h) lent = tt
 edges-from c q (OnFace f) lent = tt
 edges-from c q (OutsideOfConvexHull h) lent = refl
 
-edges-in : (l : Loaded) (q : Place) (lent : List ℕ) → ChartBy ofChart l → TallyBy natural' (N.edgesIn l q lent .answer)
+edges-in : (l : Loaded) (q : Place) (lent : List ℕ) → ChartBy ofChart l → TallyBy ofNatural (N.edgesIn l q lent .answer)
 unfolding N.edgesOn
 edges-in (loaded vs es fs) q lent h =
     let c = chartOf vs es fs in
     let p = locationOf c q in
-    either (λ (e : N.Edges). TallyBy natural' (e .answer)) (offGrid q) (N.edgesRefused 13 lent) (N.edgesFrom (placeRefusal p) c q p lent) refl (edges-from c q p lent)
+    either (λ (e : N.Edges). TallyBy ofNatural (e .answer)) (offGrid q) (N.edgesRefused 13 lent) (N.edgesFrom (placeRefusal p) c q p lent) refl (edges-from c q p lent)
 edges-in (refused n) q lent h = of-chart n h
 
-edges-after : (s : List ℕ) (q : Place) (lent : List ℕ) (h : Head) → headOf s ≡ h → TallyBy natural' (N.edgesAfter h s q lent .answer)
+edges-after : (s : List ℕ) (q : Place) (lent : List ℕ) (h : Head) → headOf s ≡ h → TallyBy ofNatural (N.edgesAfter h s q lent .answer)
 edges-after s q lent (H.Refused n) e = of-chart n (head-among s n e)
 edges-after s q lent (H.Counts v e f) h =
-    either (λ (e : N.Edges). TallyBy natural' (e .answer)) (ltb (length lent) e) (N.edgesRefused 2 lent) (N.edgesIn (loadOf v e f s) q lent) refl (edges-in (loadOf v e f s) q lent (load-by v e f s))
+    either (λ (e : N.Edges). TallyBy ofNatural (e .answer)) (ltb (length lent) e) (N.edgesRefused 2 lent) (N.edgesIn (loadOf v e f s) q lent) refl (edges-in (loadOf v e f s) q lent (load-by v e f s))
 
-shares-from : (c : Chart) (q : Place) (l : Location) (os : List ℕ) (ws : List Float) → TallyBy natural' (N.sharesFrom (placeRefusal l) c q l os ws .answer)
+shares-from : (c : Chart) (q : Place) (l : Location) (os : List ℕ) (ws : List Float) → TallyBy ofNatural (N.sharesFrom (placeRefusal l) c q l os ws .answer)
 shares-from c q (OnVertex v) os ws = tt
 shares-from c q (OnEdge h) os ws = tt
 shares-from c q (OnFace f) os ws = tt
 shares-from c q (OutsideOfConvexHull h) os ws = refl
 
-shares-in : (l : Loaded) (q : Place) (os : List ℕ) (ws : List Float) → ChartBy ofChart l → TallyBy natural' (N.sharesIn l q os ws .answer)
+shares-in : (l : Loaded) (q : Place) (os : List ℕ) (ws : List Float) → ChartBy ofChart l → TallyBy ofNatural (N.sharesIn l q os ws .answer)
 unfolding N.sharesOn
 shares-in (loaded vs es fs) q os ws h =
     let c = chartOf vs es fs in
     let p = locationOf c q in
-    either (λ (e : N.Shares). TallyBy natural' (e .answer)) (offGrid q) (N.sharesRefused 13 os ws) (N.sharesFrom (placeRefusal p) c q p os ws) refl (shares-from c q p os ws)
+    either (λ (e : N.Shares). TallyBy ofNatural (e .answer)) (offGrid q) (N.sharesRefused 13 os ws) (N.sharesFrom (placeRefusal p) c q p os ws) refl (shares-from c q p os ws)
 shares-in (refused n) q os ws h = of-chart n h
 
-shares-after : (s : List ℕ) (q : Place) (os : List ℕ) (ws : List Float) (h : Head) → headOf s ≡ h → TallyBy natural' (N.sharesAfter h s q os ws .answer)
+shares-after : (s : List ℕ) (q : Place) (os : List ℕ) (ws : List Float) (h : Head) → headOf s ≡ h → TallyBy ofNatural (N.sharesAfter h s q os ws .answer)
 shares-after s q os ws (H.Refused n) e = of-chart n (head-among s n e)
 shares-after s q os ws (H.Counts v e f) h =
-    either (λ (e : N.Shares). TallyBy natural' (e .answer)) (ltb (length os) e || ltb (length ws) e) (N.sharesRefused 2 os ws) (N.sharesIn (loadOf v e f s) q os ws) refl
+    either (λ (e : N.Shares). TallyBy ofNatural (e .answer)) (ltb (length os) e || ltb (length ws) e) (N.sharesRefused 2 os ws) (N.sharesIn (loadOf v e f s) q os ws) refl
     (shares-in (loadOf v e f s) q os ws (load-by v e f s))
 
 -- ---- values
-abbrev query' : List ℕ
-query' = 12 ∷ 13 ∷ 14 ∷ []
+abbrev ofQuery : List ℕ
+ofQuery = 12 ∷ 13 ∷ 14 ∷ []
 
-weighed-by : (c : Chart) (w : Weights) → WeightsBy query' w → ValueBy query' (barycentricValue c w)
+weighed-by : (c : Chart) (w : Weights) → WeightsBy ofQuery w → ValueBy ofQuery (barycentricValue c w)
 weighed-by c (Weights.weights l) h = tt
 weighed-by c (Weights.turnedDown n) h = h
 
-value-at : (m : ℕ) (c : Chart) (q : Place) (l : Location) → ValueBy query' (valueAt m c q l)
+value-at : (m : ℕ) (c : Chart) (q : Place) (l : Location) → ValueBy ofQuery (valueAt m c q l)
 value-at m c q l =
-    either (ValueBy query') (eqb m 1) (barycentricValue c (barycentricAt c q l)) (naturalValue m c q (neighborsOf c q l .edges)) (weighed-by c (barycentricAt c q l) (weights-at query' refl c q l)) tt
+    either (ValueBy ofQuery) (eqb m 1) (barycentricValue c (barycentricAt c q l)) (naturalValue m c q (neighborsOf c q l .edges)) (weighed-by c (barycentricAt c q l) (weights-at ofQuery refl c q l)) tt
 
-value-from : (m : ℕ) (c : Chart) (q : Place) (l : Location) → ValueBy query' (valueFrom (placeRefusal l) m c q l)
+value-from : (m : ℕ) (c : Chart) (q : Place) (l : Location) → ValueBy ofQuery (valueFrom (placeRefusal l) m c q l)
 value-from m c q (OnVertex v) = value-at m c q (OnVertex v)
 value-from m c q (OnEdge h) = value-at m c q (OnEdge h)
 value-from m c q (OnFace f) = value-at m c q (OnFace f)
 value-from m c q (OutsideOfConvexHull h) = refl
 
-pub value-on : (m : ℕ) (c : Chart) (q : Place) → ValueBy query' (valueOn m c q)
+pub value-on : (m : ℕ) (c : Chart) (q : Place) → ValueBy ofQuery (valueOn m c q)
 unfolding valueOn locatedValue
 value-on m c q =
-    either (ValueBy query') (eqb m 0) (Answer.turnedDown 12) (cond (offGrid q) (Answer.turnedDown 13) (locatedValue m c q)) refl
-    (either (ValueBy query') (offGrid q) (Answer.turnedDown 13) (locatedValue m c q) refl (value-from m c q (locationOf c q)))
+    either (ValueBy ofQuery) (eqb m 0) (Answer.turnedDown 12) (cond (offGrid q) (Answer.turnedDown 13) (locatedValue m c q)) refl
+    (either (ValueBy ofQuery) (offGrid q) (Answer.turnedDown 13) (locatedValue m c q) refl (value-from m c q (locationOf c q)))
 
-value-in : (l : Loaded) (m : ℕ) (q : Place) → ChartBy ofChart l → ValueBy (ofChart ++ query') (I.valueIn l m q)
-value-in (loaded vs es fs) m q h = value-within query' (ofChart ++ query') refl (valueOn m (chartOf vs es fs) q) (value-on m (chartOf vs es fs) q)
-value-in (refused n) m q h = among-within ofChart (ofChart ++ query') refl n h
+value-in : (l : Loaded) (m : ℕ) (q : Place) → ChartBy ofChart l → ValueBy (ofChart ++ ofQuery) (I.valueIn l m q)
+value-in (loaded vs es fs) m q h = value-within ofQuery (ofChart ++ ofQuery) refl (valueOn m (chartOf vs es fs) q) (value-on m (chartOf vs es fs) q)
+value-in (refused n) m q h = among-within ofChart (ofChart ++ ofQuery) refl n h
 
 -- ---- charge, writer, book
 charge-by : (v : Float) → CostBy (16 ∷ []) (chargeOf v)
 charge-by v = either (CostBy (16 ∷ [])) (offScale v) (Cost.turnedDown 16) (Cost.whole (rounded v)) refl tt
 
-abbrev written' : List ℕ
-written' = 2 ∷ 4 ∷ ofTables ++ 18 ∷ []
+abbrev ofWriting : List ℕ
+ofWriting = 2 ∷ 4 ∷ ofTables ++ 18 ∷ []
 
-numbers-by : (vs es fs : List ℤ) → among (0 ∷ written') (S.numbersRefusal vs es fs) ≡ true
+numbers-by : (vs es fs : List ℤ) → among (0 ∷ ofWriting) (S.numbersRefusal vs es fs) ≡ true
 unfolding S.numbersRefusal
 numbers-by vs es fs =
-    among-cond (0 ∷ written') (S.uneven vs es) 2 _ refl
-    (among-cond (0 ∷ written') (countsRefused (pos (rows vs)) (pos (rows es)) (pos (length fs))) 4 _ refl (among-within (0 ∷ ofTables) (0 ∷ written') refl (tablesRefusal vs es fs) (tables-among vs es fs)))
+    among-cond (0 ∷ ofWriting) (S.uneven vs es) 2 _ refl
+    (among-cond (0 ∷ ofWriting) (countsRefused (pos (rows vs)) (pos (rows es)) (pos (length fs))) 4 _ refl (among-within (0 ∷ ofTables) (0 ∷ ofWriting) refl (tablesRefusal vs es fs) (tables-among vs es fs)))
 
-saved-by : (n : ℕ) (text lent : List ℕ) → among (0 ∷ written') n ≡ true → WrittenBy written' (S.savedBy (S.roomRefusal n text lent) text lent .answer)
+saved-by : (n : ℕ) (text lent : List ℕ) → among (0 ∷ ofWriting) n ≡ true → WrittenBy ofWriting (S.savedBy (S.roomRefusal n text lent) text lent .answer)
 saved-by zero text lent h = go (ltb (length lent) (length text))
   where
-    go : (b : Bool) → WrittenBy written' (S.savedBy (cond b 18 0) text lent .answer)
+    go : (b : Bool) → WrittenBy ofWriting (S.savedBy (cond b 18 0) text lent .answer)
     go true = refl
     go false = tt
-saved-by (suc n) text lent h = among-rest written' n h
+saved-by (suc n) text lent h = among-rest ofWriting n h
 
 batch-by : (b : Book) (s : List ℕ) (es : List ℤ) (lent : List ℕ) → among (0 ∷ 1 ∷ 2 ∷ ofChart) (batchRefusal b s (length es) (length lent)) ≡ true
 batch-by b s es lent =
@@ -253,7 +253,7 @@ pub entry-refused : (s : List ℕ) (vs : List ℤ) (es fs : List ℕ) → chartI
 entry-refused s vs es fs read sections e total count =
     entry-by queries sections s e
     (subst (λ (l : Loaded). ValueBy ofEntry (I.valueIn l (methodOf (e .method)) (placeIn e))) (sym read)
-    (value-within query' ofEntry refl (valueOn (methodOf (e .method)) (chartOf vs es fs) (placeIn e)) (value-on (methodOf (e .method)) (chartOf vs es fs) (placeIn e))))
+    (value-within ofQuery ofEntry refl (valueOn (methodOf (e .method)) (chartOf vs es fs) (placeIn e)) (value-on (methodOf (e .method)) (chartOf vs es fs) (placeIn e))))
     total count
 
 -- ---- all of them
@@ -264,12 +264,12 @@ refusals =
       check = λ s. check-by (chartIn s) (chart-by s);
       locate = λ s x y n e. subst (PlaceBy (ofChart ++ 13 ∷ [])) e (locate-in (chartIn s) (record { x = x; y = y }) (chart-by s));
       barycentric = λ s x y n e. subst (WeightsBy (ofChart ++ 13 ∷ 14 ∷ [])) e (weights-in (chartIn s) (record { x = x; y = y }) (chart-by s));
-      edges = λ s x y lent n e. subst (TallyBy natural') e (edges-after s (record { x = x; y = y }) lent (headOf s) refl);
-      natural = λ s x y os ws n e. subst (TallyBy natural') e (shares-after s (record { x = x; y = y }) os ws (headOf s) refl);
+      edges = λ s x y lent n e. subst (TallyBy ofNatural) e (edges-after s (record { x = x; y = y }) lent (headOf s) refl);
+      natural = λ s x y os ws n e. subst (TallyBy ofNatural) e (shares-after s (record { x = x; y = y }) os ws (headOf s) refl);
       gradient = λ s v n e. subst (SlopeBy (ofChart ++ 12 ∷ [])) e (gradient-in (chartIn s) v (chart-by s));
-      value = λ s m x y n e. subst (ValueBy (ofChart ++ query')) e (value-in (chartIn s) (methodOf m) (record { x = x; y = y }) (chart-by s));
+      value = λ s m x y n e. subst (ValueBy (ofChart ++ ofQuery)) e (value-in (chartIn s) (methodOf m) (record { x = x; y = y }) (chart-by s));
       charge = λ v n e. subst (CostBy (16 ∷ [])) e (charge-by v);
-      write = λ vs es fs lent n e. subst (WrittenBy written') e (saved-by (S.numbersRefusal vs es fs) (chartText vs es fs) lent (numbers-by vs es fs));
+      write = λ vs es fs lent n e. subst (WrittenBy ofWriting) e (saved-by (S.numbersRefusal vs es fs) (chartText vs es fs) lent (numbers-by vs es fs));
       fresh = λ s. either (λ (r : Returned). among (0 ∷ 1 ∷ []) (r .refusal) ≡ true) (badSections s) (record { refusal = 1; book = zeroBook 0 }) (record { refusal = 0; book = zeroBook s }) refl refl;
       batch = λ b s es lent. rw (batch-number (batchRefusal b s (length es) (length lent)) b s es lent) (batch-by b s es lent);
       entry = λ s vs es fs read sections e total count n q. subst (OnlyBy ofEntry) q (entry-refused s vs es fs read sections e total count);
