@@ -72,11 +72,11 @@ value-at m c q l h = choose (eqb m 1)
     choose true = weighed-at c (barycentricAt c q l) h
     choose false = tt
 
-record Found (c : Chart) (q : Place) (l : Location) : Type 0 where
+record Placed (c : Chart) (q : Place) (l : Location) : Type 0 where
   pub weighs : IsWeights (barycentricAt c q l)
   pub places : placeRefusal l ≡ 0
 
-found-at : (c : Chart) (q : Place) (l : Location) → ((n : ℕ) → l ≡ OutsideOfConvexHull n → ⊥) → Found c q l
+found-at : (c : Chart) (q : Place) (l : Location) → ((n : ℕ) → l ≡ OutsideOfConvexHull n → ⊥) → Placed c q l
 unfolding weighTwo weighThree
 found-at c q (OnVertex v) h = record { weighs = tt; places = refl }
 found-at c q (OnEdge e) h = record { weighs = tt; places = refl }
@@ -85,7 +85,7 @@ found-at c q (OutsideOfConvexHull n) h = absurd (h n refl)
 
 module _ (c : Chart) (snd : Sound c) (q : Place) where
   module _ (inside : InsideRim c q) where
-    found : Found c q (locationOf c q)
+    found : Placed c q (locationOf c q)
     found = found-at c q (locationOf c q) bar
       where
         bar : (n : ℕ) → locationOf c q ≡ OutsideOfConvexHull n → ⊥

@@ -122,9 +122,9 @@ pub record Rows : Type 0 where
   -- `inspect_flips` opens inner faces alone: seen from there, the outer face of triangle A would be opened by the circle too
   pub outer-border : faceNeighbors (chartOf verticesA edgesA facesA) (place 20 20) 1 ≡ record { edges = 4 ∷ 0 ∷ 2 ∷ []; opened = 1 }
   -- as many steps as there are half-edges are allowed, which no accepted chart needs (02, CR 11). The sixth step is at half-edge 0, the partner of 1, and the
-  -- polygon is closed: 1 + 0 + 5 * 25 + 0 less 0 + 5 + 5 * 25 + 5. None leads to 7, the partner of 6: without its last side it is 126 less 130
+  -- polygon is closed: 1 + 0 + 5 * 25 + 0 less 0 + 5 + 5 * 25 + 5. None leads to 7, the partner of 6: no area
   pub six-steps : turned 1 ≡ bits 0xc022_0000_0000_0000
-  pub no-more-steps : turned 6 ≡ bits 0xc010_0000_0000_0000
+  pub no-more-steps : turned 6 ≡ bits 0
   -- `polygon_area` is positive_area - negative_area: (1, 0), (0, 1), (4, 4) give 1 * 1 + 0 * 4 + 4 * 0 less 0 * 0 + 1 * 4 + 4 * 1, which is -7
   pub area-sign : turnedAt ≡ bits 0xc01c_0000_0000_0000
   -- `positive_area` begins with a product and no sum, so that it is -0 where all three products are; `negative_area` is +0

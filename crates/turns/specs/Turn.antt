@@ -33,9 +33,9 @@ abbrev pub areaOf : Sides → Float
 areaOf s = s .positive -f s .negative
 
 -- the inner loop, with k steps left: it ends once it is at the stop edge's partner. On an accepted chart it is there within as many steps as faces were
--- opened, so that it never has no step left (02, CR 11)
+-- opened, so that it never has none left (02, CR 11)
 unfoldable pub turnFrom : (c : Chart) (q : Point2) (stop : ℕ) (first : Point2) (k edge : ℕ) (last : Point2) → Sides → Float
-turnFrom c q stop first zero edge last s = areaOf s
+turnFrom c q stop first zero edge last s = f0
 turnFrom c q stop first (suc k) edge last s =
     let current = faceCenter c q (c .face edge) in
     let t = addSide s last current in

@@ -92,22 +92,20 @@ pub fn turn_about(
     ensures { λ r. ⌜ r ≡ turnOf (chartOf (now (vertices .entry)) (now (edges .entry)) (now (faces .entry))) q stop first start before ⌝ }
 {
     let end = chart::partner_of(stop);
-    let most = edges.len() / 4;
-    let mut edge = start;
-    let mut last = before;
-    let mut sides = Sides::first(first, last);
-    let mut steps = 0;
-    while steps < most {
-        let face = chart::face_of(edges, edge);
-        let current = face_center(vertices, edges, faces, q, face);
+    let mut last = face_center(vertices, edges, faces, q, chart::face_of(edges, start));
+    let mut sides = Sides::first(first, before).add(before, last);
+    let mut edge = chart::partner_of(chart::next_of(edges, start));
+    let mut left = edges.len() / 4 - 1;
+    while edge != end {
+        if left == 0 {
+            return 0.0;
+        }
+        let current = face_center(vertices, edges, faces, q, chart::face_of(edges, edge));
         sides = sides.add(last, current);
         edge = chart::partner_of(chart::next_of(edges, edge));
         last = current;
-        if edge == end {
-            let all = sides.add(current, first);
-            return all.area();
-        }
-        steps += 1;
+        left -= 1;
     }
-    sides.area()
+    let all = sides.add(last, first);
+    all.area()
 }
