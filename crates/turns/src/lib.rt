@@ -77,7 +77,7 @@ fn face_center(vertices: &[i64], edges: &[usize], faces: &[usize], q: Point2, f:
 }
 
 // The turn about the neighbour where the listed edge `stop` starts, from the half-edge `start`; `before` and `first` are the cell's corners
-// for `start`'s and `stop`'s listed edges.
+// for `start`'s and `stop`'s listed edges. On an accepted chart the bound is never met (`Unbroken`); on any other tables the turn ends by it.
 pub fn turn_about(
     vertices: &[i64],
     edges: &[usize],
