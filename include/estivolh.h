@@ -6,8 +6,8 @@
  * a natural neighbour is broken, so that estivolh_natural_neighbor_weights, and values and bends by methods 2 and 3, are refused for the same
  * reasons as by method 1. A caller takes out what it did on 15: it never came to it. All else is as in 1.3.0: what is compiled already links
  * and runs as before. CHANGELOG.md.
- * NEW IN 1.3.0, and it broke callers' source where they named it: ESTIVOLH_REFUSED_NO_PLACE is now ESTIVOLH_REFUSED_BROKEN_TURN. Its number
- * is 15 as before, and a broken turn is all that it means: every load on an accepted chart has a place, so that estivolh_locate,
+ * NEW IN 1.3.0, and it broke callers' source where they named it: ESTIVOLH_REFUSED_NO_PLACE became ESTIVOLH_REFUSED_BROKEN_TURN. Its number
+ * was 15 as before, and a broken turn was all that it meant: every load on an accepted chart has a place, so that estivolh_locate,
  * estivolh_barycentric_weights, estivolh_natural_neighbor_edges and values by method 1 never return it. All else is as in 1.2.1: what is
  * compiled already links and runs as before. CHANGELOG.md.
  * NEW IN 1.2.1: charts are checked faster; callers change nothing.

@@ -98,7 +98,7 @@ pub fn batch(book: &mut [u64; 34], text: &[u8], entries: &[i64], answers: &mut [
                     natural.interpolate_gradient(|v| v.data().value, &*g, 1.0, p)
                 }
             };
-            let n = charge(value.ok_or(14u64)?)?; // an accepted chart has a place for every load (no 15)
+            let n = charge(value.ok_or(14u64)?)?; // outside; every other load on an accepted chart has a value
             if total + n > FULL || book[17 + s] == FULL {
                 return Err(17);
             }
