@@ -23,7 +23,8 @@ use Rattle.locate.specs.declared.Location.{Location}
 use Rattle.locate.specs.Location.{locationOf}
 use Rattle.neighbors.specs.Neighbors.{searchOf, neighborsOf}
 use Rattle.neighbourhood.specs.Neighbourhood.{Amid, Neighbourhood, neighbourhood}
-use Rattle.neighbourhood.specs.Turns.{Unbroken, unbroken}
+use Rattle.neighbourhood.specs.Turns as T
+use Rattle.neighbourhood.specs.Turns.{Unbroken}
 use Rattle.natural.specs.Natural.{settled}
 use Rattle.values.specs.Located.{placeRefusal}
 use Rattle.query.specs.declared.NaturalNeighbors.{NaturalNeighbors}
@@ -40,7 +41,7 @@ pub record Sibson (c : Chart) (q : Place) (r : NaturalNeighbors) : Type 0 where
   -- all that the request says of them, and of the search that found them
   pub whole : Neighbourhood c q (searchOf c q (locationOf c q)) (record { edges = edges; opened = opened })
   -- and no turn about one of the neighbours meets its bound
-  pub turns : Unbroken c (record { edges = edges; opened = opened })
+  pub unbroken : Unbroken c (record { edges = edges; opened = opened })
 
 -- ---- an answer that lists is that of the location
 listed-of : (r : NaturalNeighbors) (n o : ℕ) → neighborsSay r ≡ listed n o → r ≡ Listed n o
@@ -104,9 +105,9 @@ module _ (s : List ℕ) (vs : List ℤ) (es fs : List ℕ) (read : chartIn s ≡
         d ∙ r ∙ shares-here (ap (λ (x : Shares). x .answer) (sym (d ∙ r)) ∙ w)
 
 -- ---- the neighbourhood of an accepted file's load
-abbrev told : (s : List ℕ) (vs : List ℤ) (es fs : List ℕ) → chartIn s ≡ loaded vs es fs → (q : Place) → Amid (chartOf vs es fs) q → (r : NaturalNeighbors)
+abbrev all-listed : (s : List ℕ) (vs : List ℤ) (es fs : List ℕ) → chartIn s ≡ loaded vs es fs → (q : Place) → Amid (chartOf vs es fs) q → (r : NaturalNeighbors)
     → let n = neighborsOf (chartOf vs es fs) q (locationOf (chartOf vs es fs) q) in neighborsSay r ≡ listed (length (n .edges)) (n .opened) → Sibson (chartOf vs es fs) q r
-told s vs es fs read q amid r e =
+all-listed s vs es fs read q amid r e =
     let c = chartOf vs es fs in
     let n = neighborsOf c q (locationOf c q) in
     let a = chart-accepted s vs es fs read in
@@ -115,7 +116,7 @@ told s vs es fs read q amid r e =
       opened = n .opened;
       answer = listed-of r (length (n .edges)) (n .opened) e;
       whole = neighbourhood c a q amid;
-      turns = unbroken c a q amid;
+      unbroken = T.unbroken c a q amid;
     }
 
 -- of every call that was made and lists: `made` is the contract of the call, word for word. The edges stand in front of the slice
@@ -126,7 +127,7 @@ sibson-edges s x y lent r left made n o lists vs es fs read amid =
     let q : Place = record { x = x; y = y } in
     let d : edgesLeft r left .answer ≡ listed n o = ap neighborsSay lists in
     let at = made ∙ edges-by s vs es fs read q n o lent (headOf s) refl (sym (ap (λ (e : Edges). e .answer) made) ∙ d) in
-    (told s vs es fs read q amid r (ap (λ (e : Edges). e .answer) at), ap (λ (e : Edges). e .slice) at)
+    (all-listed s vs es fs read q amid r (ap (λ (e : Edges). e .answer) at), ap (λ (e : Edges). e .slice) at)
 
 -- each weight's vertex is where one of these edges starts
 pub sibson-weights : (s : List ℕ) (x y : ℤ) (os : List ℕ) (ws : List Float) (r : NaturalNeighbors) (owners : List ℕ) (weights : List Float) (made : sharesLeft r owners weights ≡ naturalSharesOf s x y os ws) (n o : ℕ) → r ≡ Listed n o
@@ -139,4 +140,4 @@ sibson-weights s x y os ws r owners weights made n o lists vs es fs read amid =
     let es' : List ℕ = neighborsOf c q (locationOf c q) .edges in
     let d : sharesLeft r owners weights .answer ≡ listed n o = ap neighborsSay lists in
     let at = made ∙ shares-by s vs es fs read q n o os ws (headOf s) refl (sym (ap (λ (e : Shares). e .answer) made) ∙ d) in
-    (told s vs es fs read q amid r (ap (λ (e : Shares). e .answer) at), ap (λ (e : Shares). e .owners) at ∙ ap (λ (k : ℕ). map (c .origin) es' ++ drop k os) (length-map es' (c .origin)))
+    (all-listed s vs es fs read q amid r (ap (λ (e : Shares). e .answer) at), ap (λ (e : Shares). e .owners) at ∙ ap (λ (k : ℕ). map (c .origin) es' ++ drop k os) (length-map es' (c .origin)))
