@@ -110,6 +110,25 @@ module _ (c : Chart) (snd : Sound c) (i : ℕ) (il : i < c .halfEdges) (ii : c .
         pick (inr (inl e)) = y e
         pick (inr (inr e)) = z e
 
+    -- of the faces with a corner at the vertex the ray goes into one only
+    pub one-way : (k : ℕ) → k < c .halfEdges → (c .face k ≡ 0 → ⊥) → c .origin k ≡ o → Neg (ray ρ q (B k)) → Pos (ray ρ q (C k)) → k ≡ i
+    one-way k kl ki e x y = pick (ℕ-discrete k i)
+      where
+        pl : c .prev i < c .halfEdges
+        pl = snd .range .prevs i il
+
+        counted : Pos (N.tri c snd q ρ k)
+        counted =
+            let w = corner-at k kl ki e in
+            subst Pos (sym (N.tri-om c snd q ρ k kl ki)) (record { is = fire (right (right w)) (both (x .is) (y .is)) })
+
+        pick : Dec (k ≡ i) → k ≡ i
+        pick (yes d) = d
+        pick (no d) =
+            absurd
+            (alone k kl ki d (λ f. snd .ends-differ i il (sym e ∙ ap (c .origin) f ∙ snd .next-start i il))
+            (λ f. snd .ends-differ (c .prev i) pl (sym (ap (c .origin) f) ∙ e ∙ ap (c .origin) (sym (snd .next-prev i il)) ∙ snd .next-start (c .prev i) pl)) counted)
+
     -- a face that holds the vertex strictly, or on an edge that the ray leaves behind
     crowd : (k : ℕ) → k < c .halfEdges → (c .face k ≡ 0 → ⊥) → Pos (Ch.sd c snd (c .next k) q) → Pos (Ch.sd c snd (c .prev k) q) → Is (up (sg (sd k)) or ze (sg (sd k)) & up (sg (al k))) → ⊥
     crowd k kl ki y z w =

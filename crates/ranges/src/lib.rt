@@ -9,7 +9,7 @@ ghost use Rattle.chart.specs.Tables.{rows, valueOf};
 ghost use Rattle.ranges.specs.Ranges.{ValueMax, countsRefused, notBelow, cell, badVertex, badHalfEdge, badFace, outOfRange};
 
 // The largest value of a vertex.
-const VALUE_MAX: i64 = 1000000;
+pub const VALUE_MAX: i64 = 1000000;
 
 // 4: vertices not 3 to 128; half-edges odd or not 6 to 756; faces not 2 to 252.
 pub fn counts_refused(vertices: i64, edges: i64, faces: i64) -> bool

@@ -9,12 +9,12 @@ use borrow.Author.Tests.{eq-eqb, eqb-true, eqb-false, ltb-true}
 use Rattle.whole.specs.First.{first, some, some-at, none-at, first-found, first-before}
 
 -- ---- of n + 1 numbers below n two are equal
-record Twice (g : ℕ → ℕ) (n : ℕ) : Type 0 where
-  i : ℕ
-  j : ℕ
-  order : i < j
-  within : j ≤ n
-  same : g i ≡ g j
+pub record Twice (g : ℕ → ℕ) (n : ℕ) : Type 0 where
+  pub i : ℕ
+  pub j : ℕ
+  pub order : i < j
+  pub within : j ≤ n
+  pub same : g i ≡ g j
 
 -- x, and l in place of n
 swap : ℕ → ℕ → ℕ → ℕ
@@ -72,7 +72,7 @@ more n fewer g h = choose (some p (suc n)) refl
         }
 
 -- the pigeons' holes
-pigeons : (n : ℕ) (g : ℕ → ℕ) → ((i : ℕ) → i ≤ n → g i < n) → Twice g n
+pub pigeons : (n : ℕ) (g : ℕ → ℕ) → ((i : ℕ) → i ≤ n → g i < n) → Twice g n
 pigeons zero g h = absurd (not-suc-le-zero (h 0 (le-refl 0)))
 pigeons (suc n) g h = more n (pigeons n) g h
 

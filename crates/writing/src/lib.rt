@@ -51,7 +51,7 @@ fn numbers_refusal(vertices: &[i64], edges: &[i64], faces: &[i64]) -> u64
 }
 
 // The text of tables that none of these meets: 18, or it is put.
-fn put_text(vertices: &[i64], edges: &[i64], faces: &[i64], text: &mut [u8]) -> WrittenChart
+pub fn put_text(vertices: &[i64], edges: &[i64], faces: &[i64], text: &mut [u8]) -> WrittenChart
     requires { ⌜ numbersRefusal (now vertices) (now edges) (now faces) ≡ 0 ⌝ }
     ensures { λ r. ⌜ savedLeft r (now (text .exit)) ≡ writeOf (now (vertices .entry)) (now (edges .entry)) (now (faces .entry)) (now (text .entry)) ⌝ }
 {

@@ -126,6 +126,10 @@ left-numbers vs es fs lent n e =
 as-chart : (s : List ℕ) (vs es fs : List ℤ) → numbersIn s ≡ body vs es fs → tablesRefusal vs es fs ≡ 0 → chartIn s ≡ loaded vs (unsignedAll es) (unsignedAll fs)
 as-chart s vs es fs q h = chart-numbers s ∙ ap loadBody q ∙ told-zero (tablesRefusal vs es fs) vs (unsignedAll es) (unsignedAll fs) h
 
+-- so the text of tables that are not refused is an accepted chart, with these tables
+pub text-read : (vs es fs : List ℤ) → numbersRefusal vs es fs ≡ 0 → chartIn (chartText vs es fs) ≡ loaded vs (unsignedAll es) (unsignedAll fs)
+text-read vs es fs h = as-chart (chartText vs es fs) vs es fs (text-numbers vs es fs h) (tables-none vs es fs h)
+
 -- a file of counts in range is no longer than the longest
 file-room : (v e f : ℕ) → Counted v e f → fileLength v e f ≤ fileLength MostVertices MostHalfEdges MostFaces
 file-room v e f n =

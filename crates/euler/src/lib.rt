@@ -1,0 +1,1 @@
+// Euler's inequality for accepted charts: everything is in specs/.
