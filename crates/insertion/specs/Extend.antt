@@ -6,7 +6,7 @@ use Prim.Native.Nat.{ℕ, zero, suc, _+_, _*_, _/_, _≤_, _<_}
 use native.Mathlib.Omega.{arith}
 use lib.Dec.{ltb}
 use lib.IntN.{ℤ, pos, negsuc}
-use lib.ListN.{length, take, drop, List·getD-append}
+use lib.ListN.{length, take, drop, length-append, List·getD-append}
 use lib.Seq.{length-take-le, take-take, take-at, getD-take}
 use native.Mathlib.Decide.{ℕ-discrete}
 use borrow.Author.Tests.{ltb-true, lt-ltb, le-ltb}
@@ -49,9 +49,16 @@ pub record Roomy (v e f a b g : ℕ) : Type 0 where
 abbrev pub frontOf : ℕ → ℕ → ℕ → List ℤ → List ℕ → List ℕ → Chart
 frontOf v e f vs es fs = chartOf (take (4 * v) vs) (take (4 * e) es) (take f fs)
 
+-- the new counts fit the arrays
+pub record Fits (v e f a b g : ℕ) : Type 0 where
+  pub v-fits : 4 * (v + 1) ≤ a
+  pub e-fits : 4 * (e + 6) ≤ b
+  pub f-fits : f + 2 ≤ g
+
 -- what `grow` leaves: the new chart in front, where it answers 0
 pub record Grew (v e f : ℕ) (q : Place) (z : ℤ) (vs : List ℤ) (es fs : List ℕ) (r : ℕ) (us : List ℤ) (gs hs : List ℕ) : Type 0 where
   pub answered : r ≡ cond (noSite (frontOf v e f vs es fs) (locationOf (frontOf v e f vs es fs) q)) 26 0
+  pub fits : Fits v e f (length us) (length gs) (length hs)
   pub joined : r ≡ 0 → Joined (frontOf v e f vs es fs) q z (frontOf (v + 1) (e + 6) (f + 2) us gs hs)
   pub naturals : r ≡ 0 → ((u : ℕ) → u < v → Natural (outCell vs u)) → (u : ℕ) → u < v + 1 → Natural (outCell us u)
 
@@ -114,10 +121,14 @@ module _ (v e f : ℕ) (vs : List ℤ) (es fs : List ℕ) (r : Roomy v e f (leng
   grow-left q z r us gs hs lu lg lh o keeps new =
       record {
         answered = o .refusal ∙ ap (λ (x : Chart). cond (noSite x (locationOf x q)) 26 0) part-old;
+        fits = record { v-fits = longer us (drop (4 * v + 4) vs) (4 * (v + 1)) u-long; e-fits = longer gs (drop (4 * e + 24) es) (4 * (e + 6)) g-long; f-fits = longer hs (drop (f + 2) fs) (f + 2) h-long };
         joined = λ p. subst (λ (x : Chart). Joined x q z (frontOf (v + 1) (e + 6) (f + 2) (us ++ drop (4 * v + 4) vs) (gs ++ drop (4 * e + 24) es) (hs ++ drop (f + 2) fs))) part-old (subst (Joined (oldOf (take (4 * v + 4) vs) (take (4 * e + 24) es) (take (f + 2) fs) v e f) q z) (sym parts) (o .joined p));
         naturals = λ p old u l. subst Natural (sym (at-front u l)) (cell-natural p old u l (ℕ-discrete u v));
       }
     where
+      longer : {A : Type 0} (xs ys : List A) (n : ℕ) → length xs ≡ n → n ≤ length (xs ++ ys)
+      longer xs ys n e = simp length-append (omega arith)
+
       u-long : length us ≡ 4 * (v + 1)
       u-long = lu ∙ length-take-le (4 * v + 4) vs v-part ∙ (let k : 4 * v + 4 ≡ 4 * (v + 1) = omega arith in k)
 
@@ -141,6 +152,7 @@ module _ (v e f : ℕ) (vs : List ℤ) (es fs : List ℕ) (r : Roomy v e f (leng
 -- what `extend` leaves: the new chart in front, where it answers 0, and its out half-edges are natural numbers
 pub record Extends (v e f : ℕ) (l : Loaded) (q : Place) (z : ℤ) (r : ℕ) (us : List ℤ) (gs hs : List ℕ) : Type 0 where
   pub answered : r ≡ insertRefusal l q z
+  pub fits : r ≡ 0 → Fits v e f (length us) (length gs) (length hs)
   pub joined : r ≡ 0 → (vs : List ℤ) (es fs : List ℕ) → l ≡ loaded vs es fs → Joined (chartOf vs es fs) q z (frontOf (v + 1) (e + 6) (f + 2) us gs hs)
   pub naturals : r ≡ 0 → (u : ℕ) → u < v + 1 → Natural (outCell us u)
 
@@ -182,6 +194,7 @@ module _ (v e f : ℕ) (s : List ℕ) (q : Place) (z : ℤ) (n : Counted v e f) 
   extend-refused us gs hs h =
       record {
         answered = sym (ap (λ (l : Loaded). insertRefusal l q z) (said ∙ told-other k (take (4 * v) vs) (take (4 * e) es) (take f fs) h));
+        fits = λ p. absurd (h p);
         joined = λ p. absurd (h p);
         naturals = λ p. absurd (h p);
       }
@@ -212,7 +225,8 @@ module _ (v e f : ℕ) (s : List ℕ) (q : Place) (z : ℤ) (n : Counted v e f) 
       extend-asked us gs hs h =
           record {
             answered = asks ∙ sym (by-chart ∙ asked-first (frontOf v e f vs es fs) q z (λ p. h (asks ∙ p)));
-            joined = λ p. absurd (h p);
+            fits = λ p. absurd (h p);
+        joined = λ p. absurd (h p);
             naturals = λ p. absurd (h p);
           }
 
@@ -221,6 +235,7 @@ module _ (v e f : ℕ) (s : List ℕ) (q : Place) (z : ℤ) (n : Counted v e f) 
       extend-grew r us gs hs h g =
           record {
             answered = g .answered ∙ sym (by-chart ∙ asked-then (frontOf v e f vs es fs) q z (sym asks ∙ h));
+            fits = λ p. g .fits;
             joined =
                 λ p ws ds bs w.
                 let x : loaded (take (4 * v) vs) (take (4 * e) es) (take f fs) ≡ loaded ws ds bs = sym was ∙ w in

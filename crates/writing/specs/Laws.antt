@@ -99,7 +99,7 @@ even-rows vs es a b = even-slices vs es (omega arith) (omega arith)
 
 -- ---- the call
 -- a refusal of the tables comes before the room
-refused-by : (r : ℕ) (text lent : List ℕ) → (r ≡ 0 → ⊥) → savedBy (roomRefusal r text lent) text lent ≡ record { answer = turnedDown r; buffer = lent }
+pub refused-by : (r : ℕ) (text lent : List ℕ) → (r ≡ 0 → ⊥) → savedBy (roomRefusal r text lent) text lent ≡ record { answer = turnedDown r; buffer = lent }
 refused-by zero text lent n = absurd (n refl)
 refused-by (suc r) text lent n = refl
 
@@ -107,6 +107,11 @@ refused-by (suc r) text lent n = refl
 pub written-refused : (vs es fs : List ℤ) (lent : List ℕ) → (numbersRefusal vs es fs ≡ 0 → ⊥) → writeOf vs es fs lent ≡ record { answer = turnedDown (numbersRefusal vs es fs); buffer = lent }
 unfolding writeOf writeRefusal
 written-refused vs es fs lent n = refused-by (numbersRefusal vs es fs) (chartText vs es fs) lent n
+
+-- of tables that nothing meets only 18 is left
+pub written-by : (vs es fs : List ℤ) (lent : List ℕ) → numbersRefusal vs es fs ≡ 0 → writeOf vs es fs lent ≡ savedBy (roomRefusal 0 (chartText vs es fs) lent) (chartText vs es fs) lent
+unfolding writeOf writeRefusal
+written-by vs es fs lent h = rw h refl
 
 -- what a call that was not refused had been lent, and what it left
 pub record Done (vs es fs : List ℤ) (lent : List ℕ) (n : ℕ) : Type 0 where
