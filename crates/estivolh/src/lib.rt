@@ -29,6 +29,7 @@ ghost use Rattle.query.specs.Location.{positionSays, locateOf};
 ghost use Rattle.weights.specs.Barycentric.{weightsSay};
 ghost use Rattle.query.specs.Weights.{barycentricOf};
 ghost use Rattle.writing.specs.Writing.{savedLeft, writeOf};
+ghost use Rattle.inserting.specs.Inserting.{InsertOf};
 
 // Whether any bytes are an accepted chart (0), or which of the refusals 3 to 11 meets them first.
 pub fn check(chart: &[u8]) -> u64
@@ -215,4 +216,15 @@ pub fn write_chart(vertices: &[i64], edges: &[i64], faces: &[i64], text: &mut [u
     ensures { λ r. ⌜ savedLeft r (now (text .exit)) ≡ writeOf (now (vertices .entry)) (now (edges .entry)) (now (faces .entry)) (now (text .entry)) ⌝ }
 {
     writing::write_chart(vertices, edges, faces, text)
+}
+
+// A new bench test at (x, y) with its value put into a chart: the new chart's text into a lent buffer.
+pub fn insert(chart: &[u8], x: i64, y: i64, value: i64, text: &mut [u8]) -> WrittenChart
+    ensures { λ r. ⌜ InsertOf (now (chart .entry)) x y value (now (text .entry)) (savedLeft r (now (text .exit))) ⌝ }
+{
+    let head = reading::read_head(chart);
+    match head {
+        Head::Refused(n) => WrittenChart::Refused(n),
+        Head::Counts(v, e, f) => inserting::insert_in(chart, v, e, f, Place { x, y }, value, text),
+    }
 }

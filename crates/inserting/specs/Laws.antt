@@ -47,16 +47,20 @@ same-chart vs ws es ds fs bs e =
     let k : fs ≡ bs = cc in
     λ t. chartOf (i t) (j t) (k t)
 
-module _ (v e f : ℕ) (s : List ℕ) (q : Place) (z : ℤ) (lent : List ℕ) (r : ℕ) (us : List ℤ) (gs hs : List ℕ) (x : Extends v e f (loadOf v e f s) q z r us gs hs) where
-  -- ---- refused before 18
-  pub insert-refused : (r ≡ 0 → ⊥) → Inserts (loadOf v e f s) q z lent (record { answer = turnedDown r; buffer = lent })
-  insert-refused h =
-      record {
-        text = [];
-        inserted = λ p. absurd (h (x .answered ∙ p));
-        left = sym (ap (λ (n : ℕ). savedBy (roomRefusal n [] lent) [] lent) (sym (x .answered)) ∙ refused-by r [] lent h);
-      }
+-- ---- refused before 18
+pub refused-inserts : (l : Loaded) (q : Place) (z : ℤ) (lent : List ℕ) (r : ℕ) → r ≡ insertRefusal l q z → (r ≡ 0 → ⊥) → Inserts l q z lent (record { answer = turnedDown r; buffer = lent })
+refused-inserts l q z lent r e h =
+    record {
+      text = [];
+      inserted = λ p. absurd (h (e ∙ p));
+      left = sym (ap (λ (n : ℕ). savedBy (roomRefusal n [] lent) [] lent) (sym e) ∙ refused-by r [] lent h);
+    }
 
+-- the chart itself
+pub chart-inserts : (l : Loaded) (q : Place) (z : ℤ) (lent : List ℕ) (n : ℕ) → l ≡ refused n → (n ≡ 0 → ⊥) → Inserts l q z lent (record { answer = turnedDown n; buffer = lent })
+chart-inserts l q z lent n w h = refused-inserts l q z lent n (sym (refused-first l n q z w)) h
+
+module _ (v e f : ℕ) (s : List ℕ) (q : Place) (z : ℤ) (lent : List ℕ) (r : ℕ) (us : List ℤ) (gs hs : List ℕ) (x : Extends v e f (loadOf v e f s) q z r us gs hs) where
   -- ---- the new tables
   module _ (o : r ≡ 0) where
     abbrev us′ : List ℤ

@@ -1,11 +1,12 @@
 -- `inserting::insert_in` meets its contract: a refusal of the vertex, or the text of the new tables. Assumes nothing.
-use mathlib.Core.Path.{sym, subst}
+use mathlib.Core.Path.{sym, subst, ap, _∙_}
 use lib.IntN.{ℤ}
 use lib.Seq.{length-take-le}
 use mir.Facts.{toZ-ofZ}
 use Rattle.reading.specs.Reading.{loadOf}
+use Rattle.insertion.specs.Insertion.{insertRefusal}
 use Rattle.insertion.specs.Extend.{Extends}
-use Rattle.inserting.specs.Laws.{insert-refused, new-pass, small-edges, small-faces, insert-written}
+use Rattle.inserting.specs.Laws.{refused-inserts, new-pass, small-edges, small-faces, insert-written}
 use borrow.Author.Needs.{needs}
 use Rattle.inserting.proofs.insert_in.Statement.{statement}
 use Rattle.inserting.proofs.insert_in.Tie as tie
@@ -42,7 +43,8 @@ returns : tie.Need-returns
 returns c =
     let s = c .before .before .before .before .before .before .before .before .before .before .before .before .before in
     let t = c .before .before .before .before .extend in
-    insert-refused (s .args .v) (s .args .e) (s .args .f) (s .args .chart .now) (s .args .q) (s .args .value) (s .args .text .now) (t .result) _ _ _ (subst (λ (z : ℤ). Extends (s .args .v) (s .args .e) (s .args .f) (loadOf (s .args .v) (s .args .e) (s .args .f) (s .args .chart .now)) (s .args .q) z (t .result) (t .last .1 .1 .1 .1 .1 .1 .0) (t .last .1 .1 .1 .1 .1 .1 .1 .0) (t .last .1 .1 .1 .1 .1 .1 .1 .1 .0)) (toZ-ofZ (s .fits .value)) (t .ensures)) (c .if1 .taken)
+    let l = loadOf (s .args .v) (s .args .e) (s .args .f) (s .args .chart .now) in
+    refused-inserts l (s .args .q) (s .args .value) (s .args .text .now) (t .result) (t .ensures .answered ∙ ap (insertRefusal l (s .args .q)) (toZ-ofZ (s .fits .value))) (c .if1 .taken)
 
 add-a : tie.Need-add-a
 add-a c = search needs
