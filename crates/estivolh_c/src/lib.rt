@@ -6,7 +6,7 @@ ghost use Rattle.reading.specs.Reading.{chartRefusalOf};
 ghost use Rattle.slices.specs.Lent.{left};
 ghost use Rattle.slices.specs.Answers.{weightsLeft};
 ghost use Rattle.estivolh_c.specs.Queries.{locateCalled, barycentricCalled, edgesLeft, edgesCalled, sharesCalled, gradientCalled, interpolateCalled};
-ghost use Rattle.estivolh_c.specs.Writing.{textLeft, writeCalled};
+ghost use Rattle.estivolh_c.specs.Writing.{textLeft, writeCalled, InsertCalled};
 ghost use Rattle.estivolh_c.specs.Account.{chargeCalled, freshCalled, batchLeft, batchCalled};
 
 // Whether any bytes are an accepted chart (0), or which of the refusals 3 to 11 meets them first.
@@ -173,5 +173,24 @@ pub extern "C" fn estivolh_write_chart(
         return 2;
     }
     let answer = estivolh::write_chart(vertices, edges, faces, text);
+    slices::put_length(answer, found)
+}
+
+// A new bench test put into a chart: the new chart's text into `text`, and how long it is.
+#[no_mangle]
+pub extern "C" fn estivolh_insert(
+    chart: &[u8],
+    x: i64,
+    y: i64,
+    value: i64,
+    text: &mut [u8],
+    found: &mut [u64],
+) -> u64
+    ensures { λ r. ⌜ InsertCalled (now (chart .entry)) x y value (now (text .entry)) (now (found .entry)) (textLeft r (now (text .exit)) (now (found .exit))) ⌝ }
+{
+    if found.len() < 1 {
+        return 2;
+    }
+    let answer = estivolh::insert(chart, x, y, value, text);
     slices::put_length(answer, found)
 }

@@ -11,6 +11,7 @@ use lib.ListN.{length}
 use Rattle.whole.specs.Among.{among, among-within, among-cond, among-rest}
 use Rattle.geometry.specs.declared.Place.{Place}
 use Rattle.geometry.specs.Plane.{offGrid}
+use Rattle.chart.specs.Limits.{MostVertices}
 use Rattle.chart.specs.Tables.{rows}
 use Rattle.chart.specs.Chart.{Chart, chartOf}
 use Rattle.ranges.specs.Ranges.{countsRefused}
@@ -36,6 +37,8 @@ use Rattle.query.specs.Gradient as G
 use Rattle.query.specs.Natural as N
 use Rattle.query.specs.Value as I
 use Rattle.writing.specs.Writing as S
+use Rattle.insertion.specs.Insertion.{noSite, outOfBounds, vertexRefusal, insertRefusal}
+use Rattle.inserting.specs.Inserting.{Inserts, InsertOf}
 use Rattle.book.specs.declared.Book.{Book}
 use Rattle.book.specs.declared.Returned.{Returned}
 use Rattle.book.specs.Books.{zeroBook, badSections, badBook, freshBook}
@@ -61,6 +64,8 @@ pub record Refusals : Type 0 where
   -- the charge, and the writer
   pub charge : (v : Float) (n : ℕ) → chargeOf v ≡ Cost.turnedDown n → among (16 ∷ []) n ≡ true
   pub write : (vs es fs : List ℤ) (lent : List ℕ) (n : ℕ) → S.writeOf vs es fs lent .answer ≡ S.Written.turnedDown n → among (2 ∷ 4 ∷ ofTables ++ 18 ∷ []) n ≡ true
+  -- a new bench test, whatever the call leaves
+  pub insert : (s : List ℕ) (x y z : ℤ) (lent : List ℕ) (done : S.Saved) → InsertOf s x y z lent done → (n : ℕ) → done .answer ≡ S.Written.turnedDown n → among (ofChart ++ 13 ∷ 25 ∷ 26 ∷ 18 ∷ []) n ≡ true
   -- the book
   pub fresh : (s : ℕ) → among (0 ∷ 1 ∷ []) (freshBook s .refusal) ≡ true
   pub batch : (b : Book) (s : List ℕ) (es : List ℤ) (lent : List ℕ) → among (0 ∷ 1 ∷ 2 ∷ ofChart) (batchOf queries b s es lent .refusal) ≡ true
@@ -230,13 +235,29 @@ numbers-by vs es fs =
     among-cond (0 ∷ ofWriting) (S.uneven vs es) 2 _ refl
     (among-cond (0 ∷ ofWriting) (countsRefused (pos (rows vs)) (pos (rows es)) (pos (length fs))) 4 _ refl (among-within (0 ∷ ofTables) (0 ∷ ofWriting) refl (tablesRefusal vs es fs) (tables-among vs es fs)))
 
-saved-by : (n : ℕ) (text lent : List ℕ) → among (0 ∷ ofWriting) n ≡ true → WrittenBy ofWriting (S.savedBy (S.roomRefusal n text lent) text lent .answer)
-saved-by zero text lent h = go (ltb (length lent) (length text))
+saved-by : (ns : List ℕ) → among ns 18 ≡ true → (n : ℕ) (text lent : List ℕ) → among (0 ∷ ns) n ≡ true → WrittenBy ns (S.savedBy (S.roomRefusal n text lent) text lent .answer)
+saved-by ns r zero text lent h = go (ltb (length lent) (length text))
   where
-    go : (b : Bool) → WrittenBy ofWriting (S.savedBy (cond b 18 0) text lent .answer)
-    go true = refl
+    go : (b : Bool) → WrittenBy ns (S.savedBy (cond b 18 0) text lent .answer)
+    go true = r
     go false = tt
-saved-by (suc n) text lent h = among-rest ofWriting n h
+saved-by ns r (suc n) text lent h = among-rest ns n h
+
+-- ---- a new bench test
+abbrev ofInserting : List ℕ
+ofInserting = ofChart ++ 13 ∷ 25 ∷ 26 ∷ 18 ∷ []
+
+insert-by : (l : Loaded) (q : Place) (z : ℤ) → ChartBy ofChart l → among (0 ∷ ofInserting) (insertRefusal l q z) ≡ true
+unfolding insertRefusal vertexRefusal
+insert-by (loaded vs es fs) q z h =
+    among-cond (0 ∷ ofInserting) (outOfBounds q z) 13 _ refl
+    (among-cond (0 ∷ ofInserting) (eqb (rows vs) MostVertices) 25 _ refl
+    (among-cond (0 ∷ ofInserting) (noSite (chartOf vs es fs) (locationOf (chartOf vs es fs) q)) 26 0 refl refl))
+insert-by (refused n) q z h = among-within ofChart (0 ∷ ofInserting) refl n h
+
+inserts-by : (l : Loaded) (q : Place) (z : ℤ) (lent : List ℕ) (done : S.Saved) → ChartBy ofChart l → Inserts l q z lent done → WrittenBy ofInserting (done .answer)
+inserts-by l q z lent done h i =
+    subst (λ (d : S.Saved). WrittenBy ofInserting (d .answer)) (sym (i .left)) (saved-by ofInserting refl (insertRefusal l q z) (i .text) lent (insert-by l q z h))
 
 batch-by : (b : Book) (s : List ℕ) (es : List ℤ) (lent : List ℕ) → among (0 ∷ 1 ∷ 2 ∷ ofChart) (batchRefusal b s (length es) (length lent)) ≡ true
 batch-by b s es lent =
@@ -269,7 +290,8 @@ refusals =
       gradient = λ s v n e. subst (SlopeBy (ofChart ++ 12 ∷ [])) e (gradient-in (chartIn s) v (chart-by s));
       value = λ s m x y n e. subst (ValueBy (ofChart ++ ofQuery)) e (value-in (chartIn s) (methodOf m) (record { x = x; y = y }) (chart-by s));
       charge = λ v n e. subst (CostBy (16 ∷ [])) e (charge-by v);
-      write = λ vs es fs lent n e. subst (WrittenBy ofWriting) e (saved-by (S.numbersRefusal vs es fs) (chartText vs es fs) lent (numbers-by vs es fs));
+      write = λ vs es fs lent n e. subst (WrittenBy ofWriting) e (saved-by ofWriting refl (S.numbersRefusal vs es fs) (chartText vs es fs) lent (numbers-by vs es fs));
+      insert = λ s x y z lent done i n e. subst (WrittenBy ofInserting) e (inserts-by (chartIn s) (record { x = x; y = y }) z lent done (chart-by s) i);
       fresh = λ s. either (λ (r : Returned). among (0 ∷ 1 ∷ []) (r .refusal) ≡ true) (badSections s) (record { refusal = 1; book = zeroBook 0 }) (record { refusal = 0; book = zeroBook s }) refl refl;
       batch = λ b s es lent. rw (batch-number (batchRefusal b s (length es) (length lent)) b s es lent) (batch-by b s es lent);
       entry = λ s vs es fs read sections e total count n q. subst (OnlyBy ofEntry) q (entry-refused s vs es fs read sections e total count);
