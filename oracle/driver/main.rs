@@ -1,14 +1,17 @@
 //! The oracle's driver. See README.md for the commands and the formats.
+use spade::delaunay_core::Dcel;
 use spade::{
     oracle_edges, oracle_loader, DelaunayTriangulation, FloatTriangulation, HasPosition, LastUsedVertexHintGenerator,
     Point2, PositionInTriangulation, Triangulation,
 };
 use std::collections::HashSet;
 use std::fmt::Write as _;
+use std::io::{Read, Write as _};
 use std::panic::{catch_unwind, AssertUnwindSafe};
 use std::sync::atomic::{AtomicBool, Ordering};
 
 mod chart;
+mod inserts;
 use chart::Chart;
 
 /// The kinds of lines that a case's answers have.
@@ -54,7 +57,7 @@ impl HasPosition for Test {
 }
 type Tri = DelaunayTriangulation<Test>;
 
-fn triangulation(c: &Chart) -> Tri {
+fn dcel(c: &Chart) -> Dcel<Test> {
     let vs = c
         .vertices
         .iter()
@@ -63,7 +66,11 @@ fn triangulation(c: &Chart) -> Tri {
             (t, v[3] as usize)
         })
         .collect();
-    let dcel = oracle_loader::dcel_of_tables(vs, &c.half, &c.faces);
+    oracle_loader::dcel_of_tables(vs, &c.half, &c.faces)
+}
+
+fn triangulation(c: &Chart) -> Tri {
+    let dcel = dcel(c);
     dcel.sanity_check(); // of the sources: an accepted chart passes it
     Tri::from_parts(dcel, LastUsedVertexHintGenerator::default(), 0)
 }
@@ -499,6 +506,12 @@ fn main() {
             Err(n) => println!("verdict {n}"),
             Ok(c) => print!("verdict 0\n{}", Oracle::new(&c).answers(&queries(a[3].as_ref()), &Only(None))),
         },
+        // a stream of charts and new bench tests on standard input
+        Some("inserts") => {
+            let mut input = Vec::new();
+            std::io::stdin().read_to_end(&mut input).unwrap();
+            std::io::stdout().write_all(&inserts::answers(&input)).unwrap();
+        }
         Some("bends") => print!("{}", bends(&file(2), &file(3))),
         Some("batch") => print!("{}", batch(&file(2), &String::from_utf8(file(3)).unwrap())),
         // every case folder of a suite: chart.txt with queries.txt, log.txt, batch.txt where they stand
@@ -525,7 +538,7 @@ fn main() {
             println!("{cases} cases, {anomalies} anomalies");
         }
         _ => {
-            eprintln!("oracle check CHART.. | room CHART N | answers [--only KINDS] CHART QUERIES [ROOMS] | force CHART QUERIES | bends CHART LOG | batch CHART SPEC | suite [--only KINDS] DIR");
+            eprintln!("oracle check CHART.. | room CHART N | answers [--only KINDS] CHART QUERIES [ROOMS] | force CHART QUERIES | inserts | bends CHART LOG | batch CHART SPEC | suite [--only KINDS] DIR");
             std::process::exit(2);
         }
     }

@@ -11,7 +11,7 @@ use Rattle.checks.specs.Checks.{Loaded}
 use Rattle.checks.specs.Checks.Loaded.{loaded}
 use Rattle.reading.specs.Reading.{fileLength, chartIn, chartRefusalOf}
 use Rattle.writing.specs.Writing.{Saved, roomRefusal, savedBy}
-use Rattle.insertion.specs.Insertion.{insertRefusal, Extended}
+use Rattle.sites.specs.Insertion.{insertRefusal, Extended}
 
 -- what the new chart's text is to the old chart: it may be any that is this
 pub record Inserted (old : Loaded) (q : Place) (z : ℤ) (new : List ℕ) : Type 0 where

@@ -21,8 +21,8 @@ use Rattle.writing.specs.Writing.Written.{turnedDown}
 use Rattle.writing.specs.Laws.{refused-by, written-by}
 use Rattle.written.specs.WrittenBack.{text-read}
 use Rattle.rewire.specs.Tables.{Natural, outCell}
-use Rattle.insertion.specs.Insertion.{insertRefusal, Extended}
-use Rattle.insertion.specs.Joined.{Joined}
+use Rattle.sites.specs.Insertion.{insertRefusal, Extended}
+use Rattle.sites.specs.Joined.{Joined}
 use Rattle.insertion.specs.Extend.{Extends}
 use Rattle.inserting.specs.Inserting.{Inserted, Inserts}
 use Rattle.inserting.specs.Numbers.{Small, unsigned-back, edges-small, faces-small, numbers-pass}
@@ -40,7 +40,7 @@ unfolding insertRefusal
 refused-first l n q z w = ap (λ (k : Loaded). insertRefusal k q z) w
 
 -- the tables of one, whichever way they are named
-same-chart : (vs ws : List ℤ) (es ds fs bs : List ℕ) → loaded vs es fs ≡ loaded ws ds bs → chartOf vs es fs ≡ chartOf ws ds bs
+pub same-chart : (vs ws : List ℤ) (es ds fs bs : List ℕ) → loaded vs es fs ≡ loaded ws ds bs → chartOf vs es fs ≡ chartOf ws ds bs
 same-chart vs ws es ds fs bs e =
     let i : vs ≡ ws = cc in
     let j : es ≡ ds = cc in

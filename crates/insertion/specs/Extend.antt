@@ -31,9 +31,9 @@ use Rattle.euler.specs.Euler.{half-edges-few, faces-few}
 use Rattle.rewire.specs.Tables.{Natural, outCell, KeepsOuts}
 use Rattle.rewire.specs.Grown.{Room, oldOf}
 use Rattle.locate.specs.Location.{locationOf}
-use Rattle.insertion.specs.Insertion.{noSite, vertexRefusal, insertRefusal}
-use Rattle.insertion.specs.Askable.{Askable, askRefusal, asked, asked-first, asked-then}
-use Rattle.insertion.specs.Joined.{Joined}
+use Rattle.sites.specs.Insertion.{noSite, vertexRefusal, insertRefusal}
+use Rattle.sites.specs.Askable.{Askable, askRefusal, asked, asked-first, asked-then}
+use Rattle.sites.specs.Joined.{Joined}
 use Rattle.insertion.specs.Outcome.{Outcome}
 
 -- the arrays are those of the largest chart

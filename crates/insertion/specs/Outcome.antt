@@ -9,17 +9,17 @@ use Rattle.geometry.specs.declared.Place.{Place}
 use Rattle.chart.specs.Chart.{Chart, InRange}
 use Rattle.accepted.specs.Accepted.{Accepted}
 use Rattle.locate.specs.Location.{locationOf}
-use Rattle.rewire.specs.Insert.{inserted}
-use Rattle.rewire.specs.Split.{split}
+use Rattle.patches.specs.Insert.{inserted}
+use Rattle.patches.specs.Split.{split}
 use Rattle.rewire.specs.Grown.{Room, oldOf, n-is}
 use Rattle.stars.specs.Star.{Growing}
 use Rattle.legal.specs.Legal.{Legal}
-use Rattle.insertion.specs.declared.Site.{Site}
-use Rattle.insertion.specs.declared.Site.the-variants.{Inside, Across, Nowhere}
-use Rattle.insertion.specs.Insertion.{noSite}
-use Rattle.insertion.specs.Askable.{Askable}
-use Rattle.insertion.specs.Site.{siteAt, without, no-site, FaceSite, EdgeSite}
-use Rattle.insertion.specs.Joined.{Joined, face-growing, face-range, face-joined, edge-growing, edge-range, edge-joined}
+use Rattle.sites.specs.declared.Site.{Site}
+use Rattle.sites.specs.declared.Site.the-variants.{Inside, Across, Nowhere}
+use Rattle.sites.specs.Insertion.{noSite}
+use Rattle.sites.specs.Askable.{Askable}
+use Rattle.sites.specs.Site.{siteAt, without, no-site, FaceSite, EdgeSite}
+use Rattle.sites.specs.Joined.{Joined, face-growing, face-range, face-joined, edge-growing, edge-range, edge-joined}
 
 -- 26 or 0, and where it is 0 the chart that was asked for
 pub record Outcome (c : Chart) (q : Place) (z : ℤ) (r : ℕ) (d : Chart) : Type 0 where

@@ -1,47 +1,19 @@
-// A new vertex into a chart's tables (CR 13).
+// A new vertex put into a chart's tables: joined to the corners around it, then edges are flipped about it.
 use geometry::Place;
-use locate::Location;
-use ranges::VALUE_MAX;
+use sites::Site;
 ghost use mathlib.Core.Path.{_≡_};
 ghost use lib.ListN.{length};
-ghost use Rattle.geometry.specs.Plane.{OnGrid};
 ghost use Rattle.chart.specs.Chart.{chartOf};
 ghost use Rattle.accepted.specs.Accepted.{Accepted};
 ghost use Rattle.rewire.specs.Tables.{Natural, outCell, KeepsOuts, NewOut};
 ghost use Rattle.rewire.specs.Grown.{Room, oldOf};
-ghost use Rattle.insertion.specs.Askable.{Askable, askRefusal};
-ghost use Rattle.insertion.specs.Site.{siteAt, FaceSite, EdgeSite};
-ghost use Rattle.insertion.specs.Joined.{Joined};
+ghost use Rattle.sites.specs.Askable.{Askable};
+ghost use Rattle.sites.specs.Site.{FaceSite, EdgeSite};
+ghost use Rattle.sites.specs.Joined.{Joined};
 ghost use Rattle.insertion.specs.Outcome.{Outcome};
 ghost use Rattle.insertion.specs.Extend.{Roomy, frontOf, Grew, Extends};
 ghost use Rattle.ranges.specs.Passed.{Counted};
 ghost use Rattle.reading.specs.Reading.{loadOf};
-
-// Where a new vertex goes in: into the face of a half-edge, into the edge of one, or nowhere.
-pub enum Site {
-    Inside(usize),
-    Across(usize),
-    Nowhere,
-}
-
-// The site of a new vertex at q.
-fn site_at(vertices: &[i64], edges: &[usize], faces: &[usize], q: Place) -> Site
-    requires { ⌜ Accepted (chartOf (now vertices) (now edges) (now faces)) ⌝ ∗ ⌜ OnGrid q ⌝ }
-    ensures { λ r. ⌜ r ≡ siteAt (chartOf (now (vertices .entry)) (now (edges .entry)) (now (faces .entry))) q ⌝ }
-{
-    let place = locate::locate(vertices, edges, faces, q);
-    match place {
-        Location::OnVertex(_) => Site::Nowhere,
-        Location::OnEdge(h) => {
-            if neighbors::is_part_of_convex_hull(vertices, edges, faces, h) {
-                return Site::Nowhere;
-            }
-            Site::Across(h)
-        }
-        Location::OnFace(f) => Site::Inside(chart::adjacent_of(faces, f)),
-        Location::OutsideOfConvexHull(_) => Site::Nowhere,
-    }
-}
 
 // A new vertex into the face of half-edge e.
 fn insert_in_face(
@@ -97,7 +69,7 @@ pub fn insert_vertex(
 {
     let a = 4 * n;
     let b = 4 * h;
-    let site = site_at(&vertices[..a], &edges[..b], &faces[..f], q);
+    let site = sites::site_at(&vertices[..a], &edges[..b], &faces[..f], q);
     match site {
         Site::Inside(e) => {
             insert_in_face(vertices, edges, faces, n, h, f, e, q, value);
@@ -109,22 +81,6 @@ pub fn insert_vertex(
         }
         Site::Nowhere => 26,
     }
-}
-
-// 13 of a place off the grid or a value out of range, 25 of a full chart; 0 for none.
-fn ask(q: Place, value: i64, v: usize) -> u64
-    ensures { λ r. ⌜ r ≡ askRefusal q value v ⌝ }
-{
-    if geometry::off_grid(q) {
-        return 13;
-    }
-    if whole::is_outside(0, VALUE_MAX, value) {
-        return 13;
-    }
-    if v == 128 {
-        return 25;
-    }
-    0
 }
 
 // A new vertex at q into the tables of a chart that was read: they stand in front of arrays for the largest chart.
@@ -176,7 +132,7 @@ pub fn extend(
     if refusal != 0 {
         return refusal;
     }
-    let asked = ask(q, value, v);
+    let asked = sites::ask(q, value, v);
     if asked != 0 {
         return asked;
     }

@@ -18,9 +18,9 @@ use Rattle.chart.specs.Tables.{rows}
 use Rattle.chart.specs.Chart.{Chart, chartOf, partner, outer, fromOf, toOf, InRange}
 use Rattle.sound.specs.Sound.{Inner}
 use Rattle.rewire.specs.Tables.{KeepsOuts}
-use Rattle.rewire.specs.Wired.{Wired, partner-below}
-use Rattle.rewire.specs.Flip as Fl
-use Rattle.rewire.specs.Flip.{flipped}
+use Rattle.patches.specs.Wired.{Wired, partner-below}
+use Rattle.patches.specs.Flip as Fl
+use Rattle.patches.specs.Flip.{flipped}
 use Rattle.signs.specs.Order.{test-pos, pos-test, not-pos}
 use Rattle.signs.specs.Count.{count, count-most, count-less}
 use Rattle.stars.specs.Star as St

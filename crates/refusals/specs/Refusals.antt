@@ -37,7 +37,7 @@ use Rattle.query.specs.Gradient as G
 use Rattle.query.specs.Natural as N
 use Rattle.query.specs.Value as I
 use Rattle.writing.specs.Writing as S
-use Rattle.insertion.specs.Insertion.{noSite, outOfBounds, vertexRefusal, insertRefusal}
+use Rattle.sites.specs.Insertion.{noSite, outOfBounds, vertexRefusal, insertRefusal}
 use Rattle.inserting.specs.Inserting.{Inserts, InsertOf}
 use Rattle.book.specs.declared.Book.{Book}
 use Rattle.book.specs.declared.Returned.{Returned}

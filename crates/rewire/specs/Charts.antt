@@ -8,8 +8,8 @@ use lib.IntN.{ℤ}
 use lib.ListN.{length, set, length-set}
 use Rattle.chart.specs.Tables.{rows}
 use Rattle.chart.specs.Chart.{Chart, chartOf, partner, InRange, partner-in}
-use Rattle.rewire.specs.declared.Row.{Row}
-use Rattle.rewire.specs.Flip.{flipRow, flipRows, flipped}
+use Rattle.patches.specs.declared.Row.{Row}
+use Rattle.patches.specs.Flip.{flipRow, flipRows, flipped}
 use Rattle.rewire.specs.Tables.{triangleIn, trianglesIn, facesIn, outIn, Fits, length-triangle, length-triangles, length-faces, triangles-origin, triangles-next, triangles-prev, triangles-face, faces-adjacent, length-out, out-place, out-value, out-out}
 
 -- ---- `flip_cw`

@@ -14,12 +14,12 @@ use Rattle.geometry.specs.declared.Place.{Place}
 use Rattle.chart.specs.Tables.{unsigned, rows, placeOf, valueOf, outOf, originOf, nextOf, prevOf, faceOf, adjacentOf}
 use Rattle.chart.specs.Chart.{Chart, chartOf, partner}
 use Rattle.sound.specs.Sound.{Inner}
-use Rattle.rewire.specs.declared.Row.{Row}
-use Rattle.rewire.specs.Rows.{Hit, none, hit, hitOf, faceHit}
-use Rattle.rewire.specs.Wired.{Wired}
-use Rattle.rewire.specs.Patch.{fromBy, nextBy, prevBy, faceBy, keyBy, put, grownWith, Patch}
-use Rattle.rewire.specs.Insert.{insertRows, inserted, insert-patch}
-use Rattle.rewire.specs.Split.{splitRows, splitOut, split, split-patch}
+use Rattle.patches.specs.declared.Row.{Row}
+use Rattle.patches.specs.Rows.{Hit, none, hit, hitOf, faceHit}
+use Rattle.patches.specs.Wired.{Wired}
+use Rattle.patches.specs.Patch.{fromBy, nextBy, prevBy, faceBy, keyBy, put, grownWith, Patch}
+use Rattle.patches.specs.Insert.{insertRows, inserted, insert-patch}
+use Rattle.patches.specs.Split.{splitRows, splitOut, split, split-patch}
 use Rattle.rewire.specs.Tables.{rowIn, triangleIn, trianglesIn, facesIn, outIn, Within, Fits, length-row, length-triangles, length-faces, triangles-origin, triangles-next, triangles-prev, triangles-face, faces-adjacent, length-out, out-place, out-value, out-out, skip, at₀, at₁, at₂, at₃}
 
 pub record Room (vs : List ℤ) (es fs : List ℕ) (n h f : ℕ) : Type 0 where

@@ -1,9 +1,3 @@
-pub mod Rows
-pub mod Wired
-pub mod Patch
-pub mod Flip
-pub mod Insert
-pub mod Split
 pub mod Tables
 pub mod Charts
 pub mod Grown

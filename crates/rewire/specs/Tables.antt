@@ -10,9 +10,9 @@ use lib.ListN.{length, getD, set, length-set}
 use lib.Seq.{getD-set-same, getD-set-other}
 use borrow.Author.Tests.{eqb-true, eqb-false}
 use Rattle.chart.specs.Tables.{unsigned, rows, placeOf, valueOf, outOf, originOf, nextOf, prevOf, faceOf, adjacentOf}
-use Rattle.rewire.specs.declared.Row.{Row}
-use Rattle.rewire.specs.Rows.{turn, hit, hitOf, faceHit}
-use Rattle.rewire.specs.Patch.{fromBy, nextBy, prevBy, faceBy, keyBy, put}
+use Rattle.patches.specs.declared.Row.{Row}
+use Rattle.patches.specs.Rows.{turn, hit, hitOf, faceHit}
+use Rattle.patches.specs.Patch.{fromBy, nextBy, prevBy, faceBy, keyBy, put}
 
 -- a half-edge's row
 unfoldable pub rowIn : {A : Type 0} → List A → ℕ → A → A → A → A → List A

@@ -1,5 +1,6 @@
 // The operations of dcel_operations.rs on a chart's tables. Each writes whole triangles in.
 use geometry::Place;
+use patches::Row;
 ghost use mathlib.Core.Path.{_≡_};
 ghost use Prim.Native.Nat.{_<_};
 ghost use lib.IntN.{pos};
@@ -7,23 +8,12 @@ ghost use lib.ListN.{length, set};
 ghost use Rattle.chart.specs.Tables.{rows, nextOf, prevOf};
 ghost use Rattle.chart.specs.Chart.{chartOf, partner, InRange};
 ghost use Rattle.sound.specs.Sound.{Inner};
-ghost use Rattle.rewire.specs.Wired.{Wired};
+ghost use Rattle.patches.specs.Wired.{Wired};
 ghost use Rattle.rewire.specs.Tables.{rowIn, triangleIn, outIn, KeepsOuts, NewOut};
-ghost use Rattle.rewire.specs.Flip.{flipRow, flipped};
-ghost use Rattle.rewire.specs.Insert.{inserted};
-ghost use Rattle.rewire.specs.Split.{split};
+ghost use Rattle.patches.specs.Flip.{flipRow, flipped};
+ghost use Rattle.patches.specs.Insert.{inserted};
+ghost use Rattle.patches.specs.Split.{split};
 ghost use Rattle.rewire.specs.Grown.{Room, oldOf, rowOf};
-
-// A half-edge of a triangle: its number, the other two, the face, and the vertices where it starts, where it ends, and across.
-pub struct Row {
-    pub key: usize,
-    pub next: usize,
-    pub prev: usize,
-    pub face: usize,
-    pub from: usize,
-    pub to: usize,
-    pub apex: usize,
-}
 
 // The row of half-edge h.
 fn put_half_edge(

@@ -10,3 +10,4 @@ pub mod Ropes
 pub mod Saved
 pub mod Around
 pub mod Occurring
+pub mod Inserted

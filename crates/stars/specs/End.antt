@@ -14,7 +14,7 @@ use Rattle.geometry.specs.Plane.{side, circle}
 use Rattle.geometry.specs.Laws.{circle-turn}
 use Rattle.chart.specs.Chart.{Chart, partner, partner-twice}
 use Rattle.sound.specs.Sound.{Inner}
-use Rattle.rewire.specs.Wired.{Wired, partner-below}
+use Rattle.patches.specs.Wired.{Wired, partner-below}
 use Rattle.stars.specs.Circles.{on-right}
 use Rattle.stars.specs.Star.{Tri, tri-next, tri-prev, tri-partner, Good, Growing}
 

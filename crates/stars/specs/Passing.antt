@@ -21,7 +21,7 @@ use Rattle.sound.specs.Sound.{Sound, Inner, Outer, start, end}
 use Rattle.sound.specs.Exactly.{none-before}
 use Rattle.nearby.specs.Local.{crowded-pressed}
 use Rattle.accepted.specs.Accepted.{Accepted, accepted}
-use Rattle.rewire.specs.Wired.{Wired, prev-face, next-differs, prev-differs, next-prev-differ}
+use Rattle.patches.specs.Wired.{Wired, prev-face, next-differs, prev-differs, next-prev-differ}
 use Rattle.stars.specs.Star.{Tri, tri-at, tri-partner}
 
 pub record Fitting (c : Chart) : Type 0 where

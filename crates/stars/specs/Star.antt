@@ -11,11 +11,11 @@ use Rattle.geometry.specs.Plane.{side, circle}
 use Rattle.geometry.specs.Laws.{side-turn, circle-turn}
 use Rattle.chart.specs.Chart.{Chart, partner, partner-twice}
 use Rattle.sound.specs.Sound.{Inner, Outer, start, end}
-use Rattle.rewire.specs.declared.Row.{Row}
-use Rattle.rewire.specs.Rows.{none, hit, hitOf, cases, Throughout, throughout}
-use Rattle.rewire.specs.Wired.{Wired, next-inner, prev-inner, next-end, prev-end, prev-prev}
-use Rattle.rewire.specs.Patch.{Patch, origin-old, origin-new, end-new, apex-new, apex-old, inner-old, outer-missed}
-use Rattle.rewire.specs.Flip.{flipped, flipRows, flip-patch, flip-wired}
+use Rattle.patches.specs.declared.Row.{Row}
+use Rattle.patches.specs.Rows.{none, hit, hitOf, cases, Throughout, throughout}
+use Rattle.patches.specs.Wired.{Wired, next-inner, prev-inner, next-end, prev-end, prev-prev}
+use Rattle.patches.specs.Patch.{Patch, origin-old, origin-new, end-new, apex-new, apex-old, inner-old, outer-missed}
+use Rattle.patches.specs.Flip.{flipped, flipRows, flip-patch, flip-wired}
 use Rattle.stars.specs.Circles.{circle-corner, left-next, left-prev, on-left}
 
 -- ---- the corners of an inner half-edge's face: where it starts, where it ends, and across

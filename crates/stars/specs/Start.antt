@@ -18,13 +18,13 @@ use Rattle.geometry.specs.Plane.{side, circle}
 use Rattle.geometry.specs.Laws.{circle-turn}
 use Rattle.chart.specs.Chart.{Chart, partner}
 use Rattle.accepted.specs.Accepted.{Accepted}
-use Rattle.rewire.specs.declared.Row.{Row}
-use Rattle.rewire.specs.Rows.{none, hitOf, Throughout, throughout}
-use Rattle.rewire.specs.Wired
-use Rattle.rewire.specs.Wired.{Wired, sound-wired, partner-below}
-use Rattle.rewire.specs.Patch.{Patch, patched, grownWith, origin-old, outer-missed}
-use Rattle.rewire.specs.Insert.{inserted, insertRows, insert-patch}
-use Rattle.rewire.specs.Split.{split, splitRows, split-patch}
+use Rattle.patches.specs.declared.Row.{Row}
+use Rattle.patches.specs.Rows.{none, hitOf, Throughout, throughout}
+use Rattle.patches.specs.Wired
+use Rattle.patches.specs.Wired.{Wired, sound-wired, partner-below}
+use Rattle.patches.specs.Patch.{Patch, patched, grownWith, origin-old, outer-missed}
+use Rattle.patches.specs.Insert.{inserted, insertRows, insert-patch}
+use Rattle.patches.specs.Split.{split, splitRows, split-patch}
 use Rattle.sound.specs.Sound.{Inner, Outer, start, end, Sound}
 use Rattle.nearby.specs.Chart as Ch
 use Rattle.nearby.specs.Rim as Ri

@@ -4,7 +4,7 @@ use lib.IntN.{ℤ}
 use lib.Seq.{length-take-le}
 use mir.Facts.{toZ-ofZ}
 use Rattle.reading.specs.Reading.{loadOf}
-use Rattle.insertion.specs.Insertion.{insertRefusal}
+use Rattle.sites.specs.Insertion.{insertRefusal}
 use Rattle.insertion.specs.Extend.{Extends}
 use Rattle.inserting.specs.Laws.{refused-inserts, new-pass, small-edges, small-faces, insert-written}
 use borrow.Author.Needs.{needs}

@@ -2,14 +2,14 @@ use mathlib.Core.Path.{sym, subst, ap, _∙_}
 use native.Mathlib.Omega.{arith}
 use lib.IntN.{ℤ}
 use mir.Facts.{toZ-ofZ}
-use Rattle.insertion.specs.Askable.{Askable, askRefusal}
+use Rattle.sites.specs.Askable.{Askable, askRefusal}
 use Rattle.insertion.specs.Extend.{frontOf, Grew, extend-refused, extend-accepted, extend-askable, extend-asked, extend-grew}
 use borrow.Author.Needs.{needs}
 use Rattle.insertion.proofs.extend.Statement.{statement}
 use Rattle.insertion.proofs.extend.Tie as tie
 use Rattle.insertion.proofs.extend.Reads as reads
 use Rattle.insertion.proofs.extend.Lts as lts
-use Rattle.insertion.proofs.ask.Reads as ask-reads
+use Rattle.sites.proofs.ask.Reads as ask-reads
 use Rattle.insertion.proofs.grow.Reads as grow-reads
 use Rattle.reading.proofs.load.Reads as load-reads
 

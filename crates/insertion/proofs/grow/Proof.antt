@@ -7,7 +7,7 @@ use mir.Facts.{toZ-ofZ}
 use Rattle.chart.specs.Chart.{Chart}
 use Rattle.accepted.specs.Accepted.{Accepted}
 use Rattle.rewire.specs.Grown.{oldOf}
-use Rattle.insertion.specs.Askable.{Askable}
+use Rattle.sites.specs.Askable.{Askable}
 use Rattle.insertion.specs.Extend.{Grew, v-part, e-part, f-part, part-room, part-old, grow-left}
 use borrow.Author.Needs.{needs}
 use Rattle.insertion.proofs.grow.Statement.{statement}

@@ -6,9 +6,9 @@ use lib.Seq.{length-take-le}
 use mir.Facts.{toZ-ofZ}
 use Rattle.chart.specs.Chart.{Chart, chartOf}
 use Rattle.rewire.specs.Grown.{oldOf}
-use Rattle.insertion.specs.Askable.{Askable}
-use Rattle.insertion.specs.Site.{face-site, edge-site}
-use Rattle.insertion.specs.Joined.{Joined}
+use Rattle.sites.specs.Askable.{Askable}
+use Rattle.sites.specs.Site.{face-site, edge-site}
+use Rattle.sites.specs.Joined.{Joined}
 use Rattle.insertion.specs.Outcome.{went-inside, went-across, stayed}
 use borrow.Author.Needs.{needs}
 use Rattle.insertion.proofs.insert_vertex.Statement.{statement}
@@ -17,7 +17,7 @@ use Rattle.insertion.proofs.insert_vertex.Reads as reads
 use Rattle.insertion.proofs.insert_vertex.Lts as lts
 use Rattle.insertion.proofs.insert_in_face.Reads as insert-in-face-reads
 use Rattle.insertion.proofs.insert_on_edge.Reads as insert-on-edge-reads
-use Rattle.insertion.proofs.site_at.Reads as site-at-reads
+use Rattle.sites.proofs.site_at.Reads as site-at-reads
 
 -- src/lib.rt:92:13
 mul-a : tie.Need-mul-a

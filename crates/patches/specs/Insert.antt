@@ -11,10 +11,10 @@ use borrow.Author.Tests.{eqb-true, eqb-false}
 use Rattle.geometry.specs.declared.Place.{Place}
 use Rattle.chart.specs.Chart.{Chart, partner}
 use Rattle.sound.specs.Sound.{Inner}
-use Rattle.rewire.specs.declared.Row.{Row}
-use Rattle.rewire.specs.Rows.{turn, Hit, none, hit, hitOf, faceHit, cases, at-key, at-rest, at-nil, face-rest, face-nil, Missed, missed, face-missed, Distinct, Throughout, throughout, hit-key, hit-next, hit-prev}
-use Rattle.rewire.specs.Wired.{Wired, prev-face, partner-below, next-differs, prev-differs, next-prev-differ, prev-end, next-end, same-face}
-use Rattle.rewire.specs.Patch.{fromBy, RowIn, Patch, patched, put, grownWith}
+use Rattle.patches.specs.declared.Row.{Row}
+use Rattle.patches.specs.Rows.{turn, Hit, none, hit, hitOf, faceHit, cases, at-key, at-rest, at-nil, face-rest, face-nil, Missed, missed, face-missed, Distinct, Throughout, throughout, hit-key, hit-next, hit-prev}
+use Rattle.patches.specs.Wired.{Wired, prev-face, partner-below, next-differs, prev-differs, next-prev-differ, prev-end, next-end, same-face}
+use Rattle.patches.specs.Patch.{fromBy, RowIn, Patch, patched, put, grownWith}
 
 -- e is a half-edge of the face
 abbrev pub insertRows : Chart → ℕ → List Row

@@ -14,7 +14,7 @@ use Rattle.chart.specs.Limits.{MostVertices}
 use Rattle.chart.specs.Chart.{Chart}
 use Rattle.ranges.specs.Ranges.{ValueMax}
 use Rattle.locate.specs.Location.{locationOf}
-use Rattle.insertion.specs.Insertion.{noSite, outOfBounds, vertexRefusal}
+use Rattle.sites.specs.Insertion.{noSite, outOfBounds, vertexRefusal}
 
 -- 13, 25, or 0
 abbrev pub askRefusal : Place → ℤ → ℕ → ℕ

@@ -11,11 +11,11 @@ use borrow.Author.Tests.{eqb-true, eqb-false}
 use Rattle.geometry.specs.declared.Place.{Place}
 use Rattle.chart.specs.Chart.{Chart, partner, partner-twice}
 use Rattle.sound.specs.Sound.{Inner}
-use Rattle.rewire.specs.declared.Row.{Row}
-use Rattle.rewire.specs.Rows.{turn, Hit, none, hit, hitOf, faceHit, cases, at-key, at-rest, at-nil, face-rest, face-nil, Missed, missed, face-missed, Distinct, Throughout, throughout, hit-key, hit-next}
-use Rattle.rewire.specs.Wired.{Wired, prev-face, partner-below, next-differs, prev-differs, next-prev-differ, prev-end, next-end, same-face, faces-differ}
-use Rattle.rewire.specs.Patch.{fromBy, RowIn, Patch, patched, put, grownWith}
-use Rattle.rewire.specs.Insert.{over, at-end, six, two-more}
+use Rattle.patches.specs.declared.Row.{Row}
+use Rattle.patches.specs.Rows.{turn, Hit, none, hit, hitOf, faceHit, cases, at-key, at-rest, at-nil, face-rest, face-nil, Missed, missed, face-missed, Distinct, Throughout, throughout, hit-key, hit-next}
+use Rattle.patches.specs.Wired.{Wired, prev-face, partner-below, next-differs, prev-differs, next-prev-differ, prev-end, next-end, same-face, faces-differ}
+use Rattle.patches.specs.Patch.{fromBy, RowIn, Patch, patched, put, grownWith}
+use Rattle.patches.specs.Insert.{over, at-end, six, two-more}
 
 -- e and t are the halves of the edge
 abbrev pub splitRows : Chart → ℕ → ℕ → List Row

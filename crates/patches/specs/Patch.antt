@@ -11,9 +11,9 @@ use Rattle.geometry.specs.declared.Place.{Place}
 use native.Mathlib.Nat.{lt-of-lt-of-le}
 use Rattle.chart.specs.Chart.{Chart, partner}
 use Rattle.sound.specs.Sound.{Inner, Outer}
-use Rattle.rewire.specs.declared.Row.{Row}
-use Rattle.rewire.specs.Rows.{turn, Hit, none, hit, hitOf, faceHit, cases, Distinct, Throughout, throughout, hit-key, hit-next, hit-prev, OfFace, same, once, twice, hit-face, face-key}
-use Rattle.rewire.specs.Wired.{Wired, prev-face}
+use Rattle.patches.specs.declared.Row.{Row}
+use Rattle.patches.specs.Rows.{turn, Hit, none, hit, hitOf, faceHit, cases, Distinct, Throughout, throughout, hit-key, hit-next, hit-prev, OfFace, same, once, twice, hit-face, face-key}
+use Rattle.patches.specs.Wired.{Wired, prev-face}
 
 -- ---- a column where a row is hit, and where none is
 abbrev pub fromBy : Hit → ℕ → ℕ

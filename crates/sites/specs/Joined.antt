@@ -15,16 +15,16 @@ use Rattle.ranges.specs.Ranges.{ValueMax}
 use Rattle.ranges.specs.Passed.{Counted}
 use Rattle.accepted.specs.Accepted.{Accepted}
 use Rattle.euler.specs.Euler.{half-edges-few, faces-few}
-use Rattle.rewire.specs.Insert.{inserted}
-use Rattle.rewire.specs.Split.{split}
+use Rattle.patches.specs.Insert.{inserted}
+use Rattle.patches.specs.Split.{split}
 use Rattle.stars.specs.Star.{Growing}
 use Rattle.stars.specs.End.{settled-calm}
 use Rattle.stars.specs.Passing.{Fitting, fits}
 use Rattle.stars.specs.Start.{insert-grows, split-grows, bare-face, bare-edge}
 use Rattle.legal.specs.Legal.{Legal, wired-range}
-use Rattle.insertion.specs.Insertion.{Extended}
-use Rattle.insertion.specs.Askable.{Askable}
-use Rattle.insertion.specs.Site.{FaceSite, EdgeSite}
+use Rattle.sites.specs.Insertion.{Extended}
+use Rattle.sites.specs.Askable.{Askable}
+use Rattle.sites.specs.Site.{FaceSite, EdgeSite}
 
 -- the chart d is accepted, and extends c by a vertex at q with value z
 pub record Joined (c : Chart) (q : Place) (z : ℤ) (d : Chart) : Type 0 where

@@ -6,7 +6,7 @@ use Prim.Native.Nat.{ℕ}
 use lib.Dec.{eqb}
 use borrow.Author.Tests.{eqb-true, eqb-false, eq-eqb, ne-eqb}
 use Rattle.whole.specs.Bools.{never}
-use Rattle.rewire.specs.declared.Row.{Row}
+use Rattle.patches.specs.declared.Row.{Row}
 
 -- the same triangle, seen from the next half-edge
 abbrev pub turn : Row → Row

@@ -1,11 +1,11 @@
 use native.Mathlib.Omega.{arith}
 use Rattle.chart.specs.Chart.{chartOf}
-use Rattle.insertion.specs.Site.{arm-edge-in, arm-face-in, arm-vertex, arm-outside, arm-hull, arm-inner, arm-face}
+use Rattle.sites.specs.Site.{arm-edge-in, arm-face-in, arm-vertex, arm-outside, arm-hull, arm-inner, arm-face}
 use borrow.Author.Needs.{needs}
-use Rattle.insertion.proofs.site_at.Statement.{statement}
-use Rattle.insertion.proofs.site_at.Tie as tie
-use Rattle.insertion.proofs.site_at.Reads as reads
-use Rattle.insertion.proofs.site_at.Lts as lts
+use Rattle.sites.proofs.site_at.Statement.{statement}
+use Rattle.sites.proofs.site_at.Tie as tie
+use Rattle.sites.proofs.site_at.Reads as reads
+use Rattle.sites.proofs.site_at.Lts as lts
 use Rattle.chart.proofs.adjacent_of.Reads as adjacent-of-reads
 use Rattle.locate.proofs.locate.Reads as locate-reads
 use Rattle.neighbors.proofs.is_part_of_convex_hull.Reads as is-part-of-convex-hull-reads

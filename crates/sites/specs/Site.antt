@@ -20,9 +20,9 @@ use Rattle.neighbors.specs.Neighbors.{partOfConvexHull}
 use Rattle.nearby.specs.Chart as Ch
 use Rattle.home.specs.Home.{held-of}
 use Rattle.home.specs.Facts.{edge-to, face-to}
-use Rattle.insertion.specs.declared.Site.{Site}
-use Rattle.insertion.specs.declared.Site.the-variants.{Inside, Across, Nowhere}
-use Rattle.insertion.specs.Insertion.{noSite}
+use Rattle.sites.specs.declared.Site.{Site}
+use Rattle.sites.specs.declared.Site.the-variants.{Inside, Across, Nowhere}
+use Rattle.sites.specs.Insertion.{noSite}
 
 -- by the location
 unfoldable pub siteOf : Chart → Location → Site

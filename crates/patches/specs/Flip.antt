@@ -9,11 +9,11 @@ use lib.Dec.{eqb}
 use borrow.Author.Tests.{eqb-true, eqb-false}
 use Rattle.chart.specs.Chart.{Chart, partner, partner-twice}
 use Rattle.sound.specs.Sound.{Inner}
-use Rattle.rewire.specs.Rows
-use Rattle.rewire.specs.declared.Row.{Row}
-use Rattle.rewire.specs.Rows.{turn, Hit, none, hitOf, faceHit, cases, at-key, at-rest, at-nil, face-rest, face-nil, missed, face-missed, Distinct, Throughout, throughout, hit-key}
-use Rattle.rewire.specs.Wired.{Wired, prev-face, partner-below, next-differs, prev-differs, next-prev-differ, prev-end, next-end, same-face, faces-differ}
-use Rattle.rewire.specs.Patch.{fromBy, RowIn, Patch, patched, put, withRows}
+use Rattle.patches.specs.Rows
+use Rattle.patches.specs.declared.Row.{Row}
+use Rattle.patches.specs.Rows.{turn, Hit, none, hitOf, faceHit, cases, at-key, at-rest, at-nil, face-rest, face-nil, missed, face-missed, Distinct, Throughout, throughout, hit-key}
+use Rattle.patches.specs.Wired.{Wired, prev-face, partner-below, next-differs, prev-differs, next-prev-differ, prev-end, next-end, same-face, faces-differ}
+use Rattle.patches.specs.Patch.{fromBy, RowIn, Patch, patched, put, withRows}
 
 -- of the edge e with partner t: e then goes from the one apex to the other
 abbrev pub flipRow : Chart → ℕ → ℕ → Row

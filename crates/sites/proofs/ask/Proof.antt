@@ -3,12 +3,12 @@ use lib.IntN.{pos}
 use mir.Facts.{toZ-ofZ}
 use Rattle.whole.specs.Bound.{outside}
 use Rattle.ranges.specs.Ranges.{ValueMax}
-use Rattle.insertion.specs.Askable.{ask-off, ask-value, ask-none, ask-full}
+use Rattle.sites.specs.Askable.{ask-off, ask-value, ask-none, ask-full}
 use borrow.Author.Needs.{needs}
-use Rattle.insertion.proofs.ask.Statement.{statement}
-use Rattle.insertion.proofs.ask.Tie as tie
-use Rattle.insertion.proofs.ask.Reads as reads
-use Rattle.insertion.proofs.ask.Lts as lts
+use Rattle.sites.proofs.ask.Statement.{statement}
+use Rattle.sites.proofs.ask.Tie as tie
+use Rattle.sites.proofs.ask.Reads as reads
+use Rattle.sites.proofs.ask.Lts as lts
 use Rattle.geometry.proofs.off_grid.Reads as off-grid-reads
 use Rattle.whole.proofs.is_outside.Reads as is-outside-reads
 

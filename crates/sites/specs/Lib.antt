@@ -1,0 +1,4 @@
+pub mod Insertion
+pub mod Askable
+pub mod Site
+pub mod Joined
