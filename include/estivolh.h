@@ -1,8 +1,9 @@
-/* The public calls of Estivolh for C: wear charts and the rope book. Version 1.4.0.
+/* The public calls of Estivolh for C: wear charts and the rope book. Version 1.5.0.
  *
  * Link libestivolh_c.a (rt staticlib estivolh_c writes it, for x86-64 Linux); of the C library it needs memcpy and memset.
  *
- * NEW IN 1.4.0, and it breaks callers' source where they name it: ESTIVOLH_REFUSED_BROKEN_TURN is gone, and no call returns 15. No turn about
+ * NEW IN 1.5.0: estivolh_insert, and refusals 25 and 26, which no other call gives. All else is as in 1.4.0; callers change nothing.
+ * NEW IN 1.4.0, and it broke callers' source where they named it: ESTIVOLH_REFUSED_BROKEN_TURN is gone, and no call returns 15. No turn about
  * a natural neighbour is broken, so that estivolh_natural_neighbor_weights, and values and bends by methods 2 and 3, are refused for the same
  * reasons as by method 1. A caller takes out what it did on 15: it never came to it. All else is as in 1.3.0: what is compiled already links
  * and runs as before. CHANGELOG.md.
@@ -11,7 +12,7 @@
  * estivolh_barycentric_weights, estivolh_natural_neighbor_edges and values by method 1 never return it. All else is as in 1.2.1: what is
  * compiled already links and runs as before. CHANGELOG.md.
  * NEW IN 1.2.1: charts are checked faster; callers change nothing.
- * NEW IN 1.2.0: estivolh_write_chart, and refusal 18, which no other call gives. All else is as in 1.1.0; callers change nothing.
+ * NEW IN 1.2.0: estivolh_write_chart, and refusal 18, which no other call gave. All else is as in 1.1.0; callers change nothing.
  * NEW IN 1.1.0, and it breaks callers' source: the names of the refusals begin with ESTIVOLH_REFUSED_ (ESTIVOLH_OUTSIDE is now
  * ESTIVOLH_REFUSED_OUTSIDE), so that none is taken for a position or for an index of the book; and compilers warn where a call's number
  * is dropped. Numbers, functions and slices are those of 1.0.0: what is compiled already links and runs as before. CHANGELOG.md.
@@ -56,7 +57,7 @@ extern "C" {
 #endif
 
 /* The version of this header and the library: 10000 * major + 100 * minor + patch. */
-#define ESTIVOLH_VERSION 10400
+#define ESTIVOLH_VERSION 10500
 
 /* Whoever drops a call's number takes a refused call for an accepted one, so a compiler that can is told to warn. */
 #if defined(__GNUC__)
@@ -66,7 +67,7 @@ extern "C" {
 #endif
 
 /* What a call returns: 0, or why it is refused, in the order in which the refusals are tried (docs/DECISIONS.md, first row, says where 2 and
- * 3 stand). An entry of a batch that is refused alone is answered ESTIVOLH_ENTRY_REFUSED plus the number: 12, 13, 14, 16 or 17. */
+ * 3 stand; 18 comes last). An entry of a batch that is refused alone is answered ESTIVOLH_ENTRY_REFUSED plus the number: 12, 13, 14, 16 or 17. */
 enum estivolh_refusal {
     ESTIVOLH_ACCEPTED = 0,
     ESTIVOLH_REFUSED_BOOK = 1,          /* sections not 1 to 16; wear and retired wear together, or a bend count, above 10^12; a section
@@ -83,11 +84,13 @@ enum estivolh_refusal {
     ESTIVOLH_REFUSED_CHART_RIM = 10,    /* a vertex strictly left of an outer half-edge */
     ESTIVOLH_REFUSED_CHART_CIRCLE = 11, /* a vertex strictly inside an inner face's circle */
     ESTIVOLH_REFUSED_UNKNOWN = 12,      /* a kind, section, vertex number or method that is unknown; a splice whose x, y or method isn't 0 */
-    ESTIVOLH_REFUSED_OFF_GRID = 13,     /* x or y not -10000 to 10000 */
+    ESTIVOLH_REFUSED_OFF_GRID = 13,     /* x or y not -10000 to 10000; of estivolh_insert also a value not 0 to 1000000 */
     ESTIVOLH_REFUSED_OUTSIDE = 14,      /* outside the chart's hull; of estivolh_locate it is an answer, ESTIVOLH_OUTSIDE_OF_HULL */
     ESTIVOLH_REFUSED_NO_CHARGE = 16,    /* the value is not a number, below -0.5, or at least 1000000.5 */
     ESTIVOLH_REFUSED_FULL = 17,         /* the charge would take wear and retired wear together above 10^12, or the section has 10^12 bends */
-    ESTIVOLH_REFUSED_TEXT_ROOM = 18     /* the lent buffer is shorter than the text */
+    ESTIVOLH_REFUSED_TEXT_ROOM = 18,    /* the lent buffer is shorter than the text; tried last of all */
+    ESTIVOLH_REFUSED_CHART_FULL = 25,   /* a new vertex, and the chart has 128 */
+    ESTIVOLH_REFUSED_NO_SITE = 26       /* a new vertex on a vertex, on a hull edge or outside; there is no 14 then */
 };
 
 /* Added to the number of the refusal in the answer of an entry that is refused alone. Answers of accepted entries are at most 1000000. */
@@ -201,6 +204,18 @@ ESTIVOLH_MUST_CHECK
 uint64_t estivolh_write_chart(const int64_t *vertices, size_t vertices_length, const int64_t *half_edges, size_t half_edges_length,
                               const int64_t *faces, size_t faces_length, uint8_t *text, size_t text_length, uint64_t *found,
                               size_t found_length);
+
+/* A new bench test at (x, y), with its value, put into a chart: the face or inner edge that holds it is divided about it, and edges are
+ * flipped until no vertex is strictly inside a face's circle. found has a stated length of 1. The new chart's text has 282 bytes more
+ * than the old one's, for one vertex, six half-edges and two faces: text must have as many, which is tested last of all, and gets 18.
+ * Writes the new chart's text into the first n bytes of text, and found[0], its length n. No NUL is put after it, and the bytes past it are
+ * as they were. The text is an accepted chart; every vertex of the old chart has its number, place and value in it, and the new one is the
+ * last. Which links it has beyond that is not promised: out half-edges, and numbers of half-edges and faces, may be others than in the old
+ * chart. The old chart is only read; to go on with the new one, hand its text to the next call.
+ * Refusals: 2 (found too short); 3 to 11, of the old chart; 13 (x, y or the value); 25; 26; 18. */
+ESTIVOLH_MUST_CHECK
+uint64_t estivolh_insert(const uint8_t *chart, size_t chart_length, int64_t x, int64_t y, int64_t value, uint8_t *text,
+                         size_t text_length, uint64_t *found, size_t found_length);
 
 #ifdef __cplusplus
 }

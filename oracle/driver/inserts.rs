@@ -14,6 +14,7 @@ fn inserted(c: &Chart, x: i64, y: i64, value: i64, stack: bool) -> Result<Chart,
         return Err(25);
     }
     let position = Point2::new(x as f64, y as f64);
+    robust::log_start(u64::MAX); // no search is counted here
     let tri = triangulation(c);
     let site = match tri.locate(position) {
         PositionInTriangulation::OnFace(f) => Site::Face(f.index()),

@@ -3,3 +3,4 @@ pub mod Calls
 pub mod Bends
 pub mod Answers
 pub mod Sibson
+pub mod NewTest
