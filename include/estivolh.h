@@ -206,7 +206,7 @@ uint64_t estivolh_write_chart(const int64_t *vertices, size_t vertices_length, c
                               size_t found_length);
 
 /* A new bench test at (x, y), with its value, put into a chart: the face or inner edge that holds it is divided about it, and edges are
- * flipped until no vertex is strictly inside a face's circle. found has a stated length of 1. The new chart's text has 282 bytes more
+ * flipped until no vertex is strictly inside a face's circle. found has a stated length of 1. The new chart's text has 249 bytes more
  * than the old one's, for one vertex, six half-edges and two faces: text must have as many, which is tested last of all, and gets 18.
  * Writes the new chart's text into the first n bytes of text, and found[0], its length n. No NUL is put after it, and the bytes past it are
  * as they were. The text is an accepted chart; every vertex of the old chart has its number, place and value in it, and the new one is the

@@ -3,7 +3,7 @@
  * every element past the named ones as it was. Each slice ends at a page that cannot be touched. All of it once for each guard: as it was
  * means the same 64 bits, also where a float's are those of a not-a-number, which a copy through a float register could change. Charts are
  * written back beside the files that they were read from: triangle A's and the square's (its path is the second argument). On both, loads in
- * and around the chart lie where its corners say. */
+ * and around the chart lie where its corners say, and new tests are put in. */
 #define _DEFAULT_SOURCE
 #include <inttypes.h>
 #include <stdio.h>
@@ -487,6 +487,83 @@ static void write_chart(void) {
     REFUSED(t, 8);
 }
 
+#define MORE (33 + 6 * 33 + 2 * 9) /* bytes of a vertex, six half-edges and two faces */
+
+/* The bytes of a vertex's line in a chart's text; the first 24 are its place and value. */
+static const uint8_t *vertex_line(const uint8_t *text, size_t vertex) { return text + 25 + 33 * vertex; }
+
+/* Whether a text is an accepted chart of one vertex more, the last, with the old ones' places and values. */
+static int extends(const uint8_t *old, size_t vertices, const uint8_t *text, size_t n, int64_t x, int64_t y, int64_t value) {
+    char last[32], count[16];
+    snprintf(last, sizeof last, "%8" PRId64 "%8" PRId64 "%8" PRId64, x, y, value);
+    snprintf(count, sizeof count, "%8zu", vertices + 1);
+    for (size_t i = 0; i < vertices; i++) {
+        if (memcmp(vertex_line(old, i), vertex_line(text, i), 24) != 0) {
+            return 0;
+        }
+    }
+    return memcmp(text, count, 8) == 0 && memcmp(vertex_line(text, vertices), last, 24) == 0 && estivolh_check(text, n) == 0;
+}
+
+/* A new test that is put in: with exact room, with more, and with less, which gets 18. */
+static void inserted(const uint8_t *old, size_t length, size_t vertices, int64_t x, int64_t y, int64_t value, int line) {
+    size_t n = length + MORE;
+    uint8_t *exact = lent_bytes(n), *more = lent_bytes(n + 100), *less = lent_bytes(n - 1);
+    uint64_t *found = lent(1), *longer = lent(3), *none = lent(1);
+    expect(estivolh_insert(old, length, x, y, value, exact, n, found, 1) == 0 && found[0] == n, line);
+    expect(extends(old, vertices, exact, n, x, y, value), line);
+    expect(estivolh_insert(old, length, x, y, value, more, n + 100, longer, 3) == 0 && longer[0] == n && kept(longer, 1, 3), line);
+    expect(memcmp(more, exact, n) == 0 && kept_bytes(more, n, n + 100), line);
+    for (size_t short_by = 1; short_by <= n; short_by = short_by < 26 ? short_by + 1 : 2 * short_by) {
+        expect(estivolh_insert(old, length, x, y, value, less + (short_by - 1), n - short_by, none, 1) == 18, line);
+    }
+    expect(estivolh_insert(old, length, x, y, value, less, n - 1, none, 0) == 2, line);
+    expect(estivolh_insert(old, length, x, y, value, more + n, 100, none, 0) == 2, line);
+    expect(kept_bytes(less, 0, n - 1) && kept_bytes(more, n, n + 100) && kept(none, 0, 1), line);
+}
+#define INSERTED(x, y, value) inserted(chart, size, 3, (x), (y), (value), __LINE__)
+
+/* One that is refused, with this number: whatever room there is, none included, so always before 18; and after 2 for found. */
+static void not_inserted(const uint8_t *old, size_t length, int64_t x, int64_t y, int64_t value, uint64_t number, int line) {
+    static const size_t rooms[] = {0, 1, 588, 589, 763, 800};
+    uint8_t *text = lent_bytes(800);
+    uint64_t *found = lent(1);
+    for (size_t i = 0; i < sizeof rooms / sizeof *rooms; i++) {
+        uint8_t *part = text + (800 - rooms[i]);
+        expect(estivolh_insert(old, length, x, y, value, part, rooms[i], found, 1) == number, line);
+        expect(estivolh_insert(old, length, x, y, value, part, rooms[i], found, 0) == 2, line);
+        expect(kept_bytes(text, 0, 800) && kept(found, 0, 1), line);
+    }
+}
+#define NOT_INSERTED(x, y, value, number) not_inserted(chart, size, (x), (y), (value), (number), __LINE__)
+
+static void insert(void) {
+    INSERTED(2, 3, 150);
+    INSERTED(1, 1, 0);
+    INSERTED(8, 1, 1000000);
+    inserted(square_chart, square_size, 4, 5, 5, 7, __LINE__); /* its inner edge */
+    inserted(square_chart, square_size, 4, 6, 2, 7, __LINE__); /* which is flipped */
+    for (int64_t t = 0; t <= 10; t++) { /* the sides, with their ends */
+        NOT_INSERTED(t, 0, 150, 26);
+        NOT_INSERTED(0, t, 150, 26);
+        NOT_INSERTED(t, 10 - t, 150, 26);
+        NOT_INSERTED(t, 11 - t, 150, 26);
+        NOT_INSERTED(t, -1, 150, 26);
+    }
+    NOT_INSERTED(10000, -10000, 150, 26);
+    NOT_INSERTED(10001, 3, 150, 13);
+    NOT_INSERTED(2, -10001, 150, 13);
+    NOT_INSERTED(INT64_MIN, INT64_MAX, 150, 13);
+    NOT_INSERTED(2, 3, -1, 13);
+    NOT_INSERTED(2, 3, 1000001, 13);
+    NOT_INSERTED(2, 3, INT64_MIN, 13);
+    NOT_INSERTED(2, 3, INT64_MAX, 13);
+    NOT_INSERTED(0, 0, -1, 13); /* before 26 */
+    not_inserted(chart, size - 1, 10001, 3, -1, 3, __LINE__);
+    not_inserted(chart, 24, 2, 3, 150, 3, __LINE__);
+    not_inserted(chart, 0, 2, 3, 150, 3, __LINE__);
+}
+
 static void every_call(void) {
     check();
     locate();
@@ -499,6 +576,7 @@ static void every_call(void) {
     fresh();
     batch();
     write_chart();
+    insert();
 }
 
 /* A chart file's bytes, which end at the wall too, and how many there are. */

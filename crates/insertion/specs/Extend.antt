@@ -226,7 +226,7 @@ module _ (v e f : ℕ) (s : List ℕ) (q : Place) (z : ℤ) (n : Counted v e f) 
           record {
             answered = asks ∙ sym (by-chart ∙ asked-first (frontOf v e f vs es fs) q z (λ p. h (asks ∙ p)));
             fits = λ p. absurd (h p);
-        joined = λ p. absurd (h p);
+            joined = λ p. absurd (h p);
             naturals = λ p. absurd (h p);
           }
 

@@ -12,16 +12,26 @@ use Rattle.geometry.specs.declared.Place.{Place}
 use Rattle.chart.specs.Chart.{Chart, partner}
 use Rattle.sound.specs.Sound.{Inner}
 use Rattle.patches.specs.declared.Row.{Row}
-use Rattle.patches.specs.Rows.{turn, Hit, none, hit, hitOf, faceHit, cases, at-key, at-rest, at-nil, face-rest, face-nil, Missed, missed, face-missed, Distinct, Throughout, throughout, hit-key, hit-next, hit-prev}
+use Rattle.patches.specs.Rows.{turn, rowFrom, rowAt, Hit, none, hit, hitOf, faceHit, cases, at-key, at-rest, at-nil, face-rest, face-nil, Missed, missed, face-missed, Distinct, Throughout, throughout, hit-key, hit-next, hit-prev}
 use Rattle.patches.specs.Wired.{Wired, prev-face, partner-below, next-differs, prev-differs, next-prev-differ, prev-end, next-end, same-face}
 use Rattle.patches.specs.Patch.{fromBy, RowIn, Patch, patched, put, grownWith}
+
+-- the triangles that replace triangle r: vertex n is across each of its half-edges; h and f are the first new half-edge and face
+abbrev pub insertRow₀ : Row → ℕ → ℕ → Row
+insertRow₀ r n h = rowFrom (r .key) h (h + 5) (r .face) (r .from) (r .to) n
+
+abbrev pub insertRow₁ : Row → ℕ → ℕ → ℕ → Row
+insertRow₁ r n h f = rowFrom (r .next) (h + 2) (h + 1) f (r .to) (r .apex) n
+
+abbrev pub insertRow₂ : Row → ℕ → ℕ → ℕ → Row
+insertRow₂ r n h f = rowFrom (r .prev) (h + 4) (h + 3) (f + 1) (r .apex) (r .from) n
 
 -- e is a half-edge of the face
 abbrev pub insertRows : Chart → ℕ → List Row
 insertRows c e =
-    record { key = e; next = c .halfEdges; prev = c .halfEdges + 5; face = c .face e; from = c .origin e; to = c .origin (c .next e); apex = c .vertices }
-    ∷ record { key = c .next e; next = c .halfEdges + 2; prev = c .halfEdges + 1; face = c .faces; from = c .origin (c .next e); to = c .origin (c .prev e); apex = c .vertices }
-    ∷ record { key = c .prev e; next = c .halfEdges + 4; prev = c .halfEdges + 3; face = c .faces + 1; from = c .origin (c .prev e); to = c .origin e; apex = c .vertices }
+    insertRow₀ (rowAt c e) (c .vertices) (c .halfEdges)
+    ∷ insertRow₁ (rowAt c e) (c .vertices) (c .halfEdges) (c .faces)
+    ∷ insertRow₂ (rowAt c e) (c .vertices) (c .halfEdges) (c .faces)
     ∷ []
 
 abbrev pub inserted : Chart → ℕ → Place → ℤ → Chart
@@ -54,16 +64,16 @@ module _ (c : Chart) (w : Wired c) (e : ℕ) (ie : Inner c e) (q : Place) (z : �
   d = inserted c e q z
 
   abbrev r₀ : Row
-  r₀ = record { key = e; next = H; prev = H + 5; face = c .face e; from = c .origin e; to = c .origin (c .next e); apex = c .vertices }
+  r₀ = insertRow₀ (rowAt c e) (c .vertices) H
 
   abbrev r₁ : Row
-  r₁ = record { key = c .next e; next = H + 2; prev = H + 1; face = c .faces; from = c .origin (c .next e); to = c .origin (c .prev e); apex = c .vertices }
+  r₁ = insertRow₁ (rowAt c e) (c .vertices) H (c .faces)
 
   abbrev r₂ : Row
-  r₂ = record { key = c .prev e; next = H + 4; prev = H + 3; face = c .faces + 1; from = c .origin (c .prev e); to = c .origin e; apex = c .vertices }
+  r₂ = insertRow₂ (rowAt c e) (c .vertices) H (c .faces)
 
   abbrev rs : List Row
-  rs = r₀ ∷ r₁ ∷ r₂ ∷ []
+  rs = insertRows c e
 
   l₁ : c .next e < H
   l₁ = w .nexts e (ie .0)

@@ -6,6 +6,7 @@ use Prim.Native.Nat.{ℕ}
 use lib.Dec.{eqb}
 use borrow.Author.Tests.{eqb-true, eqb-false, eq-eqb, ne-eqb}
 use Rattle.whole.specs.Bools.{never}
+use Rattle.chart.specs.Chart.{Chart}
 use Rattle.patches.specs.declared.Row.{Row}
 
 -- the same triangle, seen from the next half-edge
@@ -20,6 +21,14 @@ turn r =
       to = r .apex;
       apex = r .from;
     }
+
+-- by its numbers: half-edge, next, prev and face; where it starts, where it ends, and across
+abbrev pub rowFrom : ℕ → ℕ → ℕ → ℕ → ℕ → ℕ → ℕ → Row
+rowFrom h n p f a b c = record { key = h; next = n; prev = p; face = f; from = a; to = b; apex = c }
+
+-- of a half-edge of a chart, as it stands
+abbrev pub rowAt : Chart → ℕ → Row
+rowAt c h = rowFrom h (c .next h) (c .prev h) (c .face h) (c .origin h) (c .origin (c .next h)) (c .origin (c .prev h))
 
 -- ---- the row of a half-edge among triangles
 pub data Hit : Type 0 where

@@ -12,18 +12,31 @@ use Rattle.geometry.specs.declared.Place.{Place}
 use Rattle.chart.specs.Chart.{Chart, partner, partner-twice}
 use Rattle.sound.specs.Sound.{Inner}
 use Rattle.patches.specs.declared.Row.{Row}
-use Rattle.patches.specs.Rows.{turn, Hit, none, hit, hitOf, faceHit, cases, at-key, at-rest, at-nil, face-rest, face-nil, Missed, missed, face-missed, Distinct, Throughout, throughout, hit-key, hit-next}
+use Rattle.patches.specs.Rows.{turn, rowFrom, rowAt, Hit, none, hit, hitOf, faceHit, cases, at-key, at-rest, at-nil, face-rest, face-nil, Missed, missed, face-missed, Distinct, Throughout, throughout, hit-key, hit-next}
 use Rattle.patches.specs.Wired.{Wired, prev-face, partner-below, next-differs, prev-differs, next-prev-differ, prev-end, next-end, same-face, faces-differ}
 use Rattle.patches.specs.Patch.{fromBy, RowIn, Patch, patched, put, grownWith}
 use Rattle.patches.specs.Insert.{over, at-end, six, two-more}
 
+-- the triangles that replace r and s, on both sides of an edge, about a vertex n on it; h and f are the first new half-edge and face
+abbrev pub splitRow₀ : Row → ℕ → ℕ → Row
+splitRow₀ r n h = rowFrom (r .key) (h + 5) (r .prev) (r .face) (r .from) n (r .apex)
+
+abbrev pub splitRow₁ : Row → Row → ℕ → ℕ → Row
+splitRow₁ r s n h = rowFrom h (s .key) (s .next) (s .face) (s .apex) n (r .from)
+
+abbrev pub splitRow₂ : Row → ℕ → ℕ → ℕ → Row
+splitRow₂ s n h f = rowFrom (h + 2) (h + 1) (s .prev) f (s .from) n (s .apex)
+
+abbrev pub splitRow₃ : Row → Row → ℕ → ℕ → ℕ → Row
+splitRow₃ r s n h f = rowFrom (h + 4) (h + 3) (r .next) (f + 1) (r .apex) n (s .from)
+
 -- e and t are the halves of the edge
 abbrev pub splitRows : Chart → ℕ → ℕ → List Row
 splitRows c e t =
-    record { key = e; next = c .halfEdges + 5; prev = c .prev e; face = c .face e; from = c .origin e; to = c .vertices; apex = c .origin (c .prev e) }
-    ∷ record { key = c .halfEdges; next = t; prev = c .next t; face = c .face t; from = c .origin (c .prev t); to = c .vertices; apex = c .origin e }
-    ∷ record { key = c .halfEdges + 2; next = c .halfEdges + 1; prev = c .prev t; face = c .faces; from = c .origin t; to = c .vertices; apex = c .origin (c .prev t) }
-    ∷ record { key = c .halfEdges + 4; next = c .halfEdges + 3; prev = c .next e; face = c .faces + 1; from = c .origin (c .prev e); to = c .vertices; apex = c .origin t }
+    splitRow₀ (rowAt c e) (c .vertices) (c .halfEdges)
+    ∷ splitRow₁ (rowAt c e) (rowAt c t) (c .vertices) (c .halfEdges)
+    ∷ splitRow₂ (rowAt c t) (c .vertices) (c .halfEdges) (c .faces)
+    ∷ splitRow₃ (rowAt c e) (rowAt c t) (c .vertices) (c .halfEdges) (c .faces)
     ∷ []
 
 abbrev pub splitOut : Chart → ℕ → ℕ → ℕ
@@ -46,19 +59,19 @@ module _ (c : Chart) (w : Wired c) (e : ℕ) (ie : Inner c e) (it : Inner c (par
   pt = partner-twice e
 
   abbrev r₀ : Row
-  r₀ = record { key = e; next = H + 5; prev = c .prev e; face = c .face e; from = c .origin e; to = c .vertices; apex = c .origin (c .prev e) }
+  r₀ = splitRow₀ (rowAt c e) (c .vertices) H
 
   abbrev r₁ : Row
-  r₁ = record { key = H; next = t; prev = c .next t; face = c .face t; from = c .origin (c .prev t); to = c .vertices; apex = c .origin e }
+  r₁ = splitRow₁ (rowAt c e) (rowAt c t) (c .vertices) H
 
   abbrev r₂ : Row
-  r₂ = record { key = H + 2; next = H + 1; prev = c .prev t; face = c .faces; from = c .origin t; to = c .vertices; apex = c .origin (c .prev t) }
+  r₂ = splitRow₂ (rowAt c t) (c .vertices) H (c .faces)
 
   abbrev r₃ : Row
-  r₃ = record { key = H + 4; next = H + 3; prev = c .next e; face = c .faces + 1; from = c .origin (c .prev e); to = c .vertices; apex = c .origin t }
+  r₃ = splitRow₃ (rowAt c e) (rowAt c t) (c .vertices) H (c .faces)
 
   abbrev rs : List Row
-  rs = r₀ ∷ r₁ ∷ r₂ ∷ r₃ ∷ []
+  rs = splitRows c e t
 
   differ-faces : c .face e ≡ c .face t → ⊥
   differ-faces p = faces-differ c w e ie it (sym p)

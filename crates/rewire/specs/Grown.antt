@@ -15,11 +15,11 @@ use Rattle.chart.specs.Tables.{unsigned, rows, placeOf, valueOf, outOf, originO
 use Rattle.chart.specs.Chart.{Chart, chartOf, partner}
 use Rattle.sound.specs.Sound.{Inner}
 use Rattle.patches.specs.declared.Row.{Row}
-use Rattle.patches.specs.Rows.{Hit, none, hit, hitOf, faceHit}
+use Rattle.patches.specs.Rows.{rowFrom, rowAt, Hit, none, hit, hitOf, faceHit}
 use Rattle.patches.specs.Wired.{Wired}
 use Rattle.patches.specs.Patch.{fromBy, nextBy, prevBy, faceBy, keyBy, put, grownWith, Patch}
-use Rattle.patches.specs.Insert.{insertRows, inserted, insert-patch}
-use Rattle.patches.specs.Split.{splitRows, splitOut, split, split-patch}
+use Rattle.patches.specs.Insert.{insertRow₀, insertRow₁, insertRow₂, insertRows, inserted, insert-patch}
+use Rattle.patches.specs.Split.{splitRow₀, splitRow₁, splitRow₂, splitRow₃, splitRows, splitOut, split, split-patch}
 use Rattle.rewire.specs.Tables.{rowIn, triangleIn, trianglesIn, facesIn, outIn, Within, Fits, length-row, length-triangles, length-faces, triangles-origin, triangles-next, triangles-prev, triangles-face, faces-adjacent, length-out, out-place, out-value, out-out, skip, at₀, at₁, at₂, at₃}
 
 pub record Room (vs : List ℤ) (es fs : List ℕ) (n h f : ℕ) : Type 0 where
@@ -192,49 +192,19 @@ module _ (vs : List ℤ) (es fs : List ℕ) (n h f : ℕ) (room : Room vs es fs 
         g-is : length (facesIn fs rs) ≡ c .faces + 2
         g-is = length-faces fs rs ∙ room .f-long ∙ ap (λ (k : ℕ). k + 2) (sym f-is)
 
--- ---- the row of a half-edge as it stands
+-- ---- the row of a half-edge of a table, as it stands
 abbrev pub rowOf : List ℕ → ℕ → Row
-rowOf es h =
-    record {
-      key = h;
-      next = nextOf es h;
-      prev = prevOf es h;
-      face = faceOf es h;
-      from = originOf es h;
-      to = originOf es (nextOf es h);
-      apex = originOf es (prevOf es h);
-    }
-
--- the rows that `insert_into_triangle` writes, from that of the half-edge
-abbrev pub insertRow₀ : Row → ℕ → ℕ → Row
-insertRow₀ r n h = record { key = r .key; next = h; prev = h + 5; face = r .face; from = r .from; to = r .to; apex = n }
-
-abbrev pub insertRow₁ : Row → ℕ → ℕ → ℕ → Row
-insertRow₁ r n h f = record { key = r .next; next = h + 2; prev = h + 1; face = f; from = r .to; to = r .apex; apex = n }
-
-abbrev pub insertRow₂ : Row → ℕ → ℕ → ℕ → Row
-insertRow₂ r n h f = record { key = r .prev; next = h + 4; prev = h + 3; face = f + 1; from = r .apex; to = r .from; apex = n }
-
--- and those of `split_edge`, from both halves
-abbrev pub splitRow₀ : Row → ℕ → ℕ → Row
-splitRow₀ r n h = record { key = r .key; next = h + 5; prev = r .prev; face = r .face; from = r .from; to = n; apex = r .apex }
-
-abbrev pub splitRow₁ : Row → Row → ℕ → ℕ → Row
-splitRow₁ r s n h = record { key = h; next = s .key; prev = s .next; face = s .face; from = s .apex; to = n; apex = r .from }
-
-abbrev pub splitRow₂ : Row → ℕ → ℕ → ℕ → Row
-splitRow₂ s n h f = record { key = h + 2; next = h + 1; prev = s .prev; face = f; from = s .from; to = n; apex = s .apex }
-
-abbrev pub splitRow₃ : Row → Row → ℕ → ℕ → ℕ → Row
-splitRow₃ r s n h f = record { key = h + 4; next = h + 3; prev = r .next; face = f + 1; from = r .apex; to = n; apex = s .from }
+rowOf es h = rowFrom h (nextOf es h) (prevOf es h) (faceOf es h) (originOf es h) (originOf es (nextOf es h)) (originOf es (prevOf es h))
 
 -- what `put_triangle` asks
 abbrev pub Inside : List ℕ → List ℕ → Row → Type 0
 Inside es fs x = (x .key < rows es) × (x .next < rows es) × (x .prev < rows es) × (x .face < length fs)
 
-pub inside-as : (es e₁ fs f₁ : List ℕ) (x : Row) → length es ≡ length e₁ → length fs ≡ length f₁ → Inside es fs x → Inside e₁ f₁ x
-inside-as es e₁ fs f₁ x n k (a, b, d, g) =
-    (subst (λ (i : ℕ). x .key < i / 4) n a, subst (λ (i : ℕ). x .next < i / 4) n b, subst (λ (i : ℕ). x .prev < i / 4) n d, subst (λ (i : ℕ). x .face < i) k g)
+-- of a row x that is y, in tables as long as those that y was asked in
+pub inside-as : (es e₁ fs f₁ : List ℕ) (x y : Row) → x ≡ y → length e₁ ≡ length es → length f₁ ≡ length fs → Inside es fs y → Inside e₁ f₁ x
+inside-as es e₁ fs f₁ x y e n k i =
+    let (a, b, d, g) = subst (Inside es fs) (sym e) i in
+    (subst (λ (i : ℕ). x .key < i / 4) (sym n) a, subst (λ (i : ℕ). x .next < i / 4) (sym n) b, subst (λ (i : ℕ). x .prev < i / 4) (sym n) d, subst (λ (i : ℕ). x .face < i) (sym k) g)
 
 module _ (vs : List ℤ) (es fs : List ℕ) (n h f : ℕ) (room : Room vs es fs n h f) (w : Wired (oldOf vs es fs n h f)) where
   abbrev o : Chart
@@ -248,7 +218,7 @@ module _ (vs : List ℤ) (es fs : List ℕ) (n h f : ℕ) (room : Room vs es fs 
 
   -- the front's row
   abbrev oldRow : ℕ → Row
-  oldRow e = record { key = e; next = o .next e; prev = o .prev e; face = o .face e; from = o .origin e; to = o .origin (o .next e); apex = o .origin (o .prev e) }
+  oldRow e = rowAt o e
 
   pub row-front : (e : ℕ) → e < o .halfEdges → rowOf es e ≡ oldRow e
   row-front e l =
@@ -261,7 +231,7 @@ module _ (vs : List ℤ) (es fs : List ℕ) (n h f : ℕ) (room : Room vs es fs 
       let u : originOf es e ≡ o .origin e = edge-front₀ vs es fs n h f room e (λ x. a) in
       let x : originOf es (nextOf es e) ≡ o .origin (o .next e) = ap (originOf es) p ∙ edge-front₀ vs es fs n h f room (o .next e) (λ x. b) in
       let y : originOf es (prevOf es e) ≡ o .origin (o .prev e) = ap (originOf es) q ∙ edge-front₀ vs es fs n h f room (o .prev e) (λ x. d) in
-      λ i. record { key = e; next = p i; prev = q i; face = g i; from = u i; to = x i; apex = y i }
+      λ i. rowFrom e (p i) (q i) (g i) (u i) (x i) (y i)
 
   -- what `row_of` asks
   pub row-asks : (e : ℕ) → e < o .halfEdges → (e < rows es) × (nextOf es e < rows es) × (prevOf es e < rows es)
@@ -309,24 +279,27 @@ module _ (vs : List ℤ) (es fs : List ℕ) (n h f : ℕ) (room : Room vs es fs 
         Fits.cons (within (t .0)) (t .0 .3) (Fits.cons (within (t .1)) (t .1 .3) (Fits.cons (within (t .2)) (t .2 .3) Fits.nil))
 
     -- what it writes, one after the other
-    pub insert-done : (q : Place) (z : ℤ) (us : List ℤ) (e₁ e₂ e₃ f₁ f₂ f₃ : List ℕ)
-        → e₁ ≡ triangleIn es (insertRow₂ r n h f) → f₁ ≡ set fs (f + 1) (r .prev)
-        → e₂ ≡ triangleIn e₁ (insertRow₁ r n h f) → f₂ ≡ set f₁ f (r .next)
-        → e₃ ≡ triangleIn e₂ (insertRow₀ r n h) → f₃ ≡ set f₂ (r .face) (r .key)
-        → us ≡ rowIn vs n (q .x) (q .y) z (pos (h + 1)) → chartOf us e₃ f₃ ≡ inserted o e q z
-    unfolding trianglesIn facesIn
-    insert-done q z us e₁ e₂ e₃ f₁ f₂ f₃ p₁ g₁ p₂ g₂ p₃ g₃ pu =
-        let rs : List Row = insertRow₀ r n h ∷ insertRow₁ r n h f ∷ insertRow₂ r n h f ∷ [] in
-        let a : e₃ ≡ trianglesIn es rs = p₃ ∙ ap (λ (s : List ℕ). triangleIn s (insertRow₀ r n h)) (p₂ ∙ ap (λ (s : List ℕ). triangleIn s (insertRow₁ r n h f)) p₁) in
-        let b : f₃ ≡ facesIn fs rs = g₃ ∙ ap (λ (s : List ℕ). set s (r .face) (r .key)) (g₂ ∙ ap (λ (s : List ℕ). set s f (r .next)) g₁) in
-        let p : Patch o (insertRows o e) (inserted o e q z) = insert-patch o w e ie q z in
-        let rows′ : List Row = insertRows o e in
-        let long : length us ≡ length vs = ap length pu ∙ new-length vs es fs n h f room q z (h + 1) in
-        (λ i. chartOf us ((a ∙ ap (trianglesIn es) rows-are) i) ((b ∙ ap (facesIn fs) rows-are) i))
-        ∙ grown-tables vs es fs n h f room rows′ (subst (Fits es fs) rows-are insert-all) (p .new-edges) (p .new-faces) q z (put (o .vertices) (o .halfEdges + 1) (o .out)) us long
-        (λ u. ap (λ (l : List ℤ). placeOf l u) pu ∙ new-place vs es fs n h f room q z (h + 1) u)
-        (λ u. ap (λ (l : List ℤ). valueOf l u) pu ∙ new-value vs es fs n h f room q z (h + 1) u)
-        (λ u. ap (λ (l : List ℤ). outOf l u) pu ∙ new-out vs es fs n h f room q z (h + 1) u ∙ ap (λ (k : ℕ). put (o .vertices) (k + 1) (o .out) u) hh)
+    module _ (x₀ x₁ x₂ : Row) (i₀ : x₀ ≡ insertRow₀ r n h) (i₁ : x₁ ≡ insertRow₁ r n h f) (i₂ : x₂ ≡ insertRow₂ r n h f) where
+      written : (x₀ ∷ x₁ ∷ x₂ ∷ []) ≡ insertRows o e
+      written = (λ i. i₀ i ∷ i₁ i ∷ i₂ i ∷ []) ∙ rows-are
+
+      pub insert-done : (q : Place) (z : ℤ) (us : List ℤ) (e₁ e₂ e₃ f₁ f₂ f₃ : List ℕ)
+          → e₁ ≡ triangleIn es x₂ → f₁ ≡ set fs (x₂ .face) (x₂ .key)
+          → e₂ ≡ triangleIn e₁ x₁ → f₂ ≡ set f₁ (x₁ .face) (x₁ .key)
+          → e₃ ≡ triangleIn e₂ x₀ → f₃ ≡ set f₂ (x₀ .face) (x₀ .key)
+          → us ≡ rowIn vs n (q .x) (q .y) z (pos (h + 1)) → chartOf us e₃ f₃ ≡ inserted o e q z
+      unfolding trianglesIn facesIn
+      insert-done q z us e₁ e₂ e₃ f₁ f₂ f₃ p₁ g₁ p₂ g₂ p₃ g₃ pu =
+          let rs : List Row = x₀ ∷ x₁ ∷ x₂ ∷ [] in
+          let a : e₃ ≡ trianglesIn es rs = p₃ ∙ ap (λ (s : List ℕ). triangleIn s x₀) (p₂ ∙ ap (λ (s : List ℕ). triangleIn s x₁) p₁) in
+          let b : f₃ ≡ facesIn fs rs = g₃ ∙ ap (λ (s : List ℕ). set s (x₀ .face) (x₀ .key)) (g₂ ∙ ap (λ (s : List ℕ). set s (x₁ .face) (x₁ .key)) g₁) in
+          let p : Patch o (insertRows o e) (inserted o e q z) = insert-patch o w e ie q z in
+          let long : length us ≡ length vs = ap length pu ∙ new-length vs es fs n h f room q z (h + 1) in
+          (λ i. chartOf us ((a ∙ ap (trianglesIn es) written) i) ((b ∙ ap (facesIn fs) written) i))
+          ∙ grown-tables vs es fs n h f room (insertRows o e) (subst (Fits es fs) rows-are insert-all) (p .new-edges) (p .new-faces) q z (put (o .vertices) (o .halfEdges + 1) (o .out)) us long
+          (λ u. ap (λ (l : List ℤ). placeOf l u) pu ∙ new-place vs es fs n h f room q z (h + 1) u)
+          (λ u. ap (λ (l : List ℤ). valueOf l u) pu ∙ new-value vs es fs n h f room q z (h + 1) u)
+          (λ u. ap (λ (l : List ℤ). outOf l u) pu ∙ new-out vs es fs n h f room q z (h + 1) u ∙ ap (λ (k : ℕ). put (o .vertices) (k + 1) (o .out) u) hh)
 
     -- ---- `split_edge`
     module _ (t : ℕ) (pt : t ≡ partner e) (it : Inner o (partner e)) (s : Row) (ps : s ≡ rowOf es t) where
@@ -361,28 +334,33 @@ module _ (vs : List ℤ) (es fs : List ℕ) (n h f : ℕ) (room : Room vs es fs 
       pub split-end : s .from < n
       split-end = subst (λ (k : ℕ). k < n) (sym (ap (λ (x : Row). x .from) s-is)) (subst (λ (k : ℕ). o .origin (partner e) < k) (sym nn) (w .origins (partner e) (it .0)))
 
-      pub split-done : (q : Place) (z : ℤ) (us u₁ : List ℤ) (e₁ e₂ e₃ e₄ f₁ f₂ f₃ f₄ : List ℕ)
-          → e₁ ≡ triangleIn es (splitRow₃ r s n h f) → f₁ ≡ set fs (f + 1) (h + 4)
-          → e₂ ≡ triangleIn e₁ (splitRow₂ s n h f) → f₂ ≡ set f₁ f (h + 2)
-          → e₃ ≡ triangleIn e₂ (splitRow₁ r s n h) → f₃ ≡ set f₂ (s .face) h
-          → e₄ ≡ triangleIn e₃ (splitRow₀ r n h) → f₄ ≡ set f₃ (r .face) (r .key)
-          → u₁ ≡ rowIn vs n (q .x) (q .y) z (pos t) → us ≡ outIn u₁ (s .from) (h + 2) → chartOf us e₄ f₄ ≡ split o e q z
-      unfolding trianglesIn facesIn
-      split-done q z us u₁ e₁ e₂ e₃ e₄ f₁ f₂ f₃ f₄ p₁ g₁ p₂ g₂ p₃ g₃ p₄ g₄ pu₁ pu =
-          let rs : List Row = splitRow₀ r n h ∷ splitRow₁ r s n h ∷ splitRow₂ s n h f ∷ splitRow₃ r s n h f ∷ [] in
-          let a : e₄ ≡ trianglesIn es rs = p₄ ∙ ap (λ (l : List ℕ). triangleIn l (splitRow₀ r n h)) (p₃ ∙ ap (λ (l : List ℕ). triangleIn l (splitRow₁ r s n h)) (p₂ ∙ ap (λ (l : List ℕ). triangleIn l (splitRow₂ s n h f)) p₁)) in
-          let b : f₄ ≡ facesIn fs rs = g₄ ∙ ap (λ (l : List ℕ). set l (r .face) (r .key)) (g₃ ∙ ap (λ (l : List ℕ). set l (s .face) h) (g₂ ∙ ap (λ (l : List ℕ). set l f (h + 2)) g₁)) in
-          let p : Patch o (splitRows o e (partner e)) (split o e q z) = split-patch o w e ie it q z in
-          let v₁ : List ℤ = rowIn vs n (q .x) (q .y) z (pos t) in
-          let us-is : us ≡ outIn v₁ (s .from) (h + 2) = pu ∙ ap (λ (l : List ℤ). outIn l (s .from) (h + 2)) pu₁ in
-          let long₁ : length v₁ ≡ length vs = new-length vs es fs n h f room q z t in
-          let long : length us ≡ length vs = ap length us-is ∙ length-out v₁ (s .from) (h + 2) ∙ long₁ in
-          let end-in : s .from < rows v₁ = let x = split-end in let y = room .v-long in omega (arith, long₁) in
-          (λ i. chartOf us ((a ∙ ap (trianglesIn es) split-are) i) ((b ∙ ap (facesIn fs) split-are) i))
-          ∙ grown-tables vs es fs n h f room (splitRows o e (partner e)) (subst (Fits es fs) split-are split-all) (p .new-edges) (p .new-faces) q z (splitOut o (partner e)) us long
-          (λ u. ap (λ (l : List ℤ). placeOf l u) us-is ∙ out-place v₁ (s .from) (h + 2) u ∙ new-place vs es fs n h f room q z t u)
-          (λ u. ap (λ (l : List ℤ). valueOf l u) us-is ∙ out-value v₁ (s .from) (h + 2) u ∙ new-value vs es fs n h f room q z t u)
-          (λ u.
-          ap (λ (l : List ℤ). outOf l u) us-is ∙ out-out v₁ (s .from) (h + 2) u end-in
-          ∙ ap (λ (k : ℕ). cond (eqb u (s .from)) (h + 2) k) (new-out vs es fs n h f room q z t u)
-          ∙ (λ i. put (s-is i .from) (hh i + 2) (put (o .vertices) (pt i) (o .out)) u))
+      -- what it writes, one after the other
+      module _ (x₀ x₁ x₂ x₃ : Row) (i₀ : x₀ ≡ splitRow₀ r n h) (i₁ : x₁ ≡ splitRow₁ r s n h) (i₂ : x₂ ≡ splitRow₂ s n h f) (i₃ : x₃ ≡ splitRow₃ r s n h f) where
+        split-written : (x₀ ∷ x₁ ∷ x₂ ∷ x₃ ∷ []) ≡ splitRows o e (partner e)
+        split-written = (λ i. i₀ i ∷ i₁ i ∷ i₂ i ∷ i₃ i ∷ []) ∙ split-are
+
+        pub split-done : (q : Place) (z : ℤ) (us u₁ : List ℤ) (e₁ e₂ e₃ e₄ f₁ f₂ f₃ f₄ : List ℕ)
+            → e₁ ≡ triangleIn es x₃ → f₁ ≡ set fs (x₃ .face) (x₃ .key)
+            → e₂ ≡ triangleIn e₁ x₂ → f₂ ≡ set f₁ (x₂ .face) (x₂ .key)
+            → e₃ ≡ triangleIn e₂ x₁ → f₃ ≡ set f₂ (x₁ .face) (x₁ .key)
+            → e₄ ≡ triangleIn e₃ x₀ → f₄ ≡ set f₃ (x₀ .face) (x₀ .key)
+            → u₁ ≡ rowIn vs n (q .x) (q .y) z (pos t) → us ≡ outIn u₁ (s .from) (h + 2) → chartOf us e₄ f₄ ≡ split o e q z
+        unfolding trianglesIn facesIn
+        split-done q z us u₁ e₁ e₂ e₃ e₄ f₁ f₂ f₃ f₄ p₁ g₁ p₂ g₂ p₃ g₃ p₄ g₄ pu₁ pu =
+            let rs : List Row = x₀ ∷ x₁ ∷ x₂ ∷ x₃ ∷ [] in
+            let a : e₄ ≡ trianglesIn es rs = p₄ ∙ ap (λ (l : List ℕ). triangleIn l x₀) (p₃ ∙ ap (λ (l : List ℕ). triangleIn l x₁) (p₂ ∙ ap (λ (l : List ℕ). triangleIn l x₂) p₁)) in
+            let b : f₄ ≡ facesIn fs rs = g₄ ∙ ap (λ (l : List ℕ). set l (x₀ .face) (x₀ .key)) (g₃ ∙ ap (λ (l : List ℕ). set l (x₁ .face) (x₁ .key)) (g₂ ∙ ap (λ (l : List ℕ). set l (x₂ .face) (x₂ .key)) g₁)) in
+            let p : Patch o (splitRows o e (partner e)) (split o e q z) = split-patch o w e ie it q z in
+            let v₁ : List ℤ = rowIn vs n (q .x) (q .y) z (pos t) in
+            let us-is : us ≡ outIn v₁ (s .from) (h + 2) = pu ∙ ap (λ (l : List ℤ). outIn l (s .from) (h + 2)) pu₁ in
+            let long₁ : length v₁ ≡ length vs = new-length vs es fs n h f room q z t in
+            let long : length us ≡ length vs = ap length us-is ∙ length-out v₁ (s .from) (h + 2) ∙ long₁ in
+            let end-in : s .from < rows v₁ = let x = split-end in let y = room .v-long in omega (arith, long₁) in
+            (λ i. chartOf us ((a ∙ ap (trianglesIn es) split-written) i) ((b ∙ ap (facesIn fs) split-written) i))
+            ∙ grown-tables vs es fs n h f room (splitRows o e (partner e)) (subst (Fits es fs) split-are split-all) (p .new-edges) (p .new-faces) q z (splitOut o (partner e)) us long
+            (λ u. ap (λ (l : List ℤ). placeOf l u) us-is ∙ out-place v₁ (s .from) (h + 2) u ∙ new-place vs es fs n h f room q z t u)
+            (λ u. ap (λ (l : List ℤ). valueOf l u) us-is ∙ out-value v₁ (s .from) (h + 2) u ∙ new-value vs es fs n h f room q z t u)
+            (λ u.
+            ap (λ (l : List ℤ). outOf l u) us-is ∙ out-out v₁ (s .from) (h + 2) u end-in
+            ∙ ap (λ (k : ℕ). cond (eqb u (s .from)) (h + 2) k) (new-out vs es fs n h f room q z t u)
+            ∙ (λ i. put (s-is i .from) (hh i + 2) (put (o .vertices) (pt i) (o .out)) u))

@@ -8,6 +8,7 @@ ghost use lib.ListN.{length, set};
 ghost use Rattle.chart.specs.Tables.{rows, nextOf, prevOf};
 ghost use Rattle.chart.specs.Chart.{chartOf, partner, InRange};
 ghost use Rattle.sound.specs.Sound.{Inner};
+ghost use Rattle.patches.specs.Rows.{rowFrom};
 ghost use Rattle.patches.specs.Wired.{Wired};
 ghost use Rattle.rewire.specs.Tables.{rowIn, triangleIn, outIn, KeepsOuts, NewOut};
 ghost use Rattle.patches.specs.Flip.{flipRow, flipped};
@@ -91,6 +92,29 @@ pub fn flip_cw(vertices: &mut [i64], edges: &mut [usize], faces: &mut [usize], e
     set_out(vertices, first.apex, first.prev);
 }
 
+// A row, by its numbers.
+fn triangle(
+    key: usize,
+    next: usize,
+    prev: usize,
+    face: usize,
+    from: usize,
+    to: usize,
+    apex: usize,
+) -> Row
+    ensures { λ r. ⌜ r ≡ rowFrom key next prev face from to apex ⌝ }
+{
+    Row {
+        key,
+        next,
+        prev,
+        face,
+        from,
+        to,
+        apex,
+    }
+}
+
 // The row of half-edge h as it stands.
 fn row_of(edges: &[usize], h: usize) -> Row
     requires { ⌜ (h < rows (now edges)) × (nextOf (now edges) h < rows (now edges)) × (prevOf (now edges) h < rows (now edges)) ⌝ }
@@ -139,45 +163,12 @@ pub fn insert_into_triangle(
     ensures { λ _. ⌜ (chartOf (now (vertices .exit)) (now (edges .exit)) (now (faces .exit)) ≡ inserted (oldOf (now (vertices .entry)) (now (edges .entry)) (now (faces .entry)) n h f) e q value) × (NewOut n (now (vertices .entry)) (now (vertices .exit))) ⌝ }
 {
     let r = row_of(edges, e);
-    put_triangle(
-        edges,
-        faces,
-        Row {
-            key: r.prev,
-            next: h + 4,
-            prev: h + 3,
-            face: f + 1,
-            from: r.apex,
-            to: r.from,
-            apex: n,
-        },
-    );
-    put_triangle(
-        edges,
-        faces,
-        Row {
-            key: r.next,
-            next: h + 2,
-            prev: h + 1,
-            face: f,
-            from: r.to,
-            to: r.apex,
-            apex: n,
-        },
-    );
-    put_triangle(
-        edges,
-        faces,
-        Row {
-            key: r.key,
-            next: h,
-            prev: h + 5,
-            face: r.face,
-            from: r.from,
-            to: r.to,
-            apex: n,
-        },
-    );
+    let third = triangle(r.prev, h + 4, h + 3, f + 1, r.apex, r.from, n);
+    let second = triangle(r.next, h + 2, h + 1, f, r.to, r.apex, n);
+    let first = triangle(r.key, h, h + 5, r.face, r.from, r.to, n);
+    put_triangle(edges, faces, third);
+    put_triangle(edges, faces, second);
+    put_triangle(edges, faces, first);
     put_vertex(vertices, n, q, value, h + 1);
 }
 
@@ -199,58 +190,14 @@ pub fn split_edge(
     let t = chart::partner_of(e);
     let r = row_of(edges, e);
     let s = row_of(edges, t);
-    put_triangle(
-        edges,
-        faces,
-        Row {
-            key: h + 4,
-            next: h + 3,
-            prev: r.next,
-            face: f + 1,
-            from: r.apex,
-            to: n,
-            apex: s.from,
-        },
-    );
-    put_triangle(
-        edges,
-        faces,
-        Row {
-            key: h + 2,
-            next: h + 1,
-            prev: s.prev,
-            face: f,
-            from: s.from,
-            to: n,
-            apex: s.apex,
-        },
-    );
-    put_triangle(
-        edges,
-        faces,
-        Row {
-            key: h,
-            next: s.key,
-            prev: s.next,
-            face: s.face,
-            from: s.apex,
-            to: n,
-            apex: r.from,
-        },
-    );
-    put_triangle(
-        edges,
-        faces,
-        Row {
-            key: r.key,
-            next: h + 5,
-            prev: r.prev,
-            face: r.face,
-            from: r.from,
-            to: n,
-            apex: r.apex,
-        },
-    );
+    let fourth = triangle(h + 4, h + 3, r.next, f + 1, r.apex, n, s.from);
+    let third = triangle(h + 2, h + 1, s.prev, f, s.from, n, s.apex);
+    let second = triangle(h, s.key, s.next, s.face, s.apex, n, r.from);
+    let first = triangle(r.key, h + 5, r.prev, r.face, r.from, n, r.apex);
+    put_triangle(edges, faces, fourth);
+    put_triangle(edges, faces, third);
+    put_triangle(edges, faces, second);
+    put_triangle(edges, faces, first);
     put_vertex(vertices, n, q, value, t);
     set_out(vertices, s.from, h + 2);
 }

@@ -1,3 +1,4 @@
+-- `insertion::extend` meets its contract: the chart's refusals, then 13 and 25, then 26. Assumes nothing.
 use mathlib.Core.Path.{sym, subst, ap, _∙_}
 use native.Mathlib.Omega.{arith}
 use lib.IntN.{ℤ}
@@ -7,53 +8,37 @@ use Rattle.insertion.specs.Extend.{frontOf, Grew, extend-refused, extend
 use borrow.Author.Needs.{needs}
 use Rattle.insertion.proofs.extend.Statement.{statement}
 use Rattle.insertion.proofs.extend.Tie as tie
-use Rattle.insertion.proofs.extend.Reads as reads
-use Rattle.insertion.proofs.extend.Lts as lts
-use Rattle.sites.proofs.ask.Reads as ask-reads
-use Rattle.insertion.proofs.grow.Reads as grow-reads
-use Rattle.reading.proofs.load.Reads as load-reads
 
--- src/lib.rt:184:9
 load-requires : tie.Need-load-requires
 load-requires c κs = search needs
 
--- src/lib.rt:186:9
 same-length : tie.Need-same-length
 same-length c = search needs
 
--- src/lib.rt:186:9
 same-length-2 : tie.Need-same-length-2
 same-length-2 c = search needs
 
--- src/lib.rt:186:9
 same-length-3 : tie.Need-same-length-3
 same-length-3 c = search needs
 
--- src/lib.rt:186:9
 returns : tie.Need-returns
 returns c = let s = (c .before .before .before .before .before .before .before .before .before .before .before .before .before) in extend-refused (s .args .v) (s .args .e) (s .args .f) (s .args .text .now) (s .args .q) (s .args .value) (s .pre .0) ((c .before .before .before .before .before .before .load) .result) ((c .before .before .before .before .before .before .load) .last .1 .1 .1 .1 .0) ((c .before .before .before .before .before .before .load) .last .1 .1 .1 .1 .1 .0) ((c .before .before .before .before .before .before .load) .last .1 .1 .1 .1 .1 .1 .0) ((c .before .before .before .before .before .before .load) .ensures) ((c .before .before .before .before .before .before .load) .last .1 .1 .1 .1 .0) ((c .before .before .before .before .before .before .load) .last .1 .1 .1 .1 .1 .0) ((c .before .before .before .before .before .before .load) .last .1 .1 .1 .1 .1 .1 .0) ((c .if1) .taken)
 
--- src/lib.rt:188:9
 ask-requires : tie.Need-ask-requires
 ask-requires c κs = search needs
 
--- src/lib.rt:190:9
 same-length-4 : tie.Need-same-length-4
 same-length-4 c = search needs
 
--- src/lib.rt:190:9
 same-length-5 : tie.Need-same-length-5
 same-length-5 c = search needs
 
--- src/lib.rt:190:9
 same-length-6 : tie.Need-same-length-6
 same-length-6 c = search needs
 
--- src/lib.rt:190:9
 returns-2 : tie.Need-returns-2
 returns-2 c = let s = (c .before .before .before .before .before .before .before .before .before .before .before .before .before .before .before) in extend-asked (s .args .v) (s .args .e) (s .args .f) (s .args .text .now) (s .args .q) (s .args .value) (s .pre .0) ((c .before .before .before .before .before .before .before .before .load) .result) ((c .before .before .before .before .before .before .before .before .load) .last .1 .1 .1 .1 .0) ((c .before .before .before .before .before .before .before .before .load) .last .1 .1 .1 .1 .1 .0) ((c .before .before .before .before .before .before .before .before .load) .last .1 .1 .1 .1 .1 .1 .0) ((c .before .before .before .before .before .before .before .before .load) .ensures) ((c .before .before .if1) .left) (let x = s .pre .1 .v-room in let y = s .pre .0 .v-most in let w = (c .before .before .before .before .before .before .before .before .load) .kept .1 .1 .1 .1 .0 in omega arith) ((c .before .ask) .result) ((c .before .ask) .ensures ∙ ap (λ (z : ℤ). askRefusal (s .args .q) z (s .args .v)) (toZ-ofZ (s .fits .value))) ((c .before .before .before .before .before .before .before .before .load) .last .1 .1 .1 .1 .0) ((c .before .before .before .before .before .before .before .before .load) .last .1 .1 .1 .1 .1 .0) ((c .before .before .before .before .before .before .before .before .load) .last .1 .1 .1 .1 .1 .1 .0) ((c .if2) .taken)
 
--- src/lib.rt:192:5
 grow-requires : tie.Need-grow-requires
 grow-requires c κs =
     let s = (c .before .before .before .before .before .before .before .before .before .before .before .before .before .before .before .before .before .before) in
@@ -65,19 +50,15 @@ grow-requires c κs =
       ),
     )
 
--- src/lib.rt:170:1
 same-length-7 : tie.Need-same-length-7
 same-length-7 c = search needs
 
--- src/lib.rt:170:1
 same-length-8 : tie.Need-same-length-8
 same-length-8 c = search needs
 
--- src/lib.rt:170:1
 same-length-9 : tie.Need-same-length-9
 same-length-9 c = search needs
 
--- src/lib.rt:170:1
 returns-3 : tie.Need-returns-3
 returns-3 c =
     let s = (c .before .before .before .before .before .before .before .before .before .before .before .before .before .before .before .before .before .before .before .before .before .before .before .before) in

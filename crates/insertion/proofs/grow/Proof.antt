@@ -1,3 +1,4 @@
+-- `insertion::grow` meets its contract: by Euler's inequality the new counts fit the arrays. Assumes nothing.
 use mathlib.Core.Path.{sym, subst}
 use mathlib.Core.List.{_++_}
 use Prim.Native.Nat.{_+_, _*_}
@@ -12,55 +13,40 @@ use Rattle.insertion.specs.Extend.{Grew, v-part, e-part, f-part, part-ro
 use borrow.Author.Needs.{needs}
 use Rattle.insertion.proofs.grow.Statement.{statement}
 use Rattle.insertion.proofs.grow.Tie as tie
-use Rattle.insertion.proofs.grow.Reads as reads
-use Rattle.insertion.proofs.grow.Lts as lts
-use Rattle.insertion.proofs.insert_vertex.Reads as insert-vertex-reads
 
--- src/lib.rt:144:13
 mul-a : tie.Need-mul-a
 mul-a c = search needs
 
--- src/lib.rt:144:13
 add-a : tie.Need-add-a
 add-a c = search needs
 
--- src/lib.rt:145:13
 mul-b : tie.Need-mul-b
 mul-b c = search needs
 
--- src/lib.rt:145:13
 add-b : tie.Need-add-b
 add-b c = search needs
 
--- src/lib.rt:146:13
 add-g : tie.Need-add-g
 add-g c = search needs
 
--- src/lib.rt:148:9
 slice-relend-prefix-insert-vertex : tie.Need-slice-relend-prefix-insert-vertex
 slice-relend-prefix-insert-vertex c = let s = (c .before .before) in v-part (s .args .v) (s .args .e) (s .args .f) (s .args .vertices .now) (s .args .edges .now) (s .args .faces .now) (s .pre .0) (s .pre .1 .0) (s .pre .1 .1 .few)
 
--- src/lib.rt:148:9
 slice-aggregate-insert-vertex : tie.Need-slice-aggregate-insert-vertex
 slice-aggregate-insert-vertex c = let s = (c .before .before .before) in sym (part-room (s .args .v) (s .args .e) (s .args .f) (s .args .vertices .now) (s .args .edges .now) (s .args .faces .now) (s .pre .0) (s .pre .1 .0) (s .pre .1 .1 .few) .v-long)
 
--- src/lib.rt:149:9
 slice-relend-prefix-insert-vertex-2 : tie.Need-slice-relend-prefix-insert-vertex-2
 slice-relend-prefix-insert-vertex-2 c = let s = (c .before .before .before) in e-part (s .args .v) (s .args .e) (s .args .f) (s .args .vertices .now) (s .args .edges .now) (s .args .faces .now) (s .pre .0) (s .pre .1 .0) (s .pre .1 .1 .few)
 
--- src/lib.rt:149:9
 slice-aggregate-insert-vertex-2 : tie.Need-slice-aggregate-insert-vertex-2
 slice-aggregate-insert-vertex-2 c = let s = (c .before .before .before .before) in sym (part-room (s .args .v) (s .args .e) (s .args .f) (s .args .vertices .now) (s .args .edges .now) (s .args .faces .now) (s .pre .0) (s .pre .1 .0) (s .pre .1 .1 .few) .e-long)
 
--- src/lib.rt:150:9
 slice-relend-prefix-insert-vertex-3 : tie.Need-slice-relend-prefix-insert-vertex-3
 slice-relend-prefix-insert-vertex-3 c = let s = (c .before .before .before .before) in f-part (s .args .v) (s .args .e) (s .args .f) (s .args .vertices .now) (s .args .edges .now) (s .args .faces .now) (s .pre .0) (s .pre .1 .0) (s .pre .1 .1 .few)
 
--- src/lib.rt:150:9
 slice-aggregate-insert-vertex-3 : tie.Need-slice-aggregate-insert-vertex-3
 slice-aggregate-insert-vertex-3 c = let s = (c .before .before .before .before .before) in sym (part-room (s .args .v) (s .args .e) (s .args .f) (s .args .vertices .now) (s .args .edges .now) (s .args .faces .now) (s .pre .0) (s .pre .1 .0) (s .pre .1 .1 .few) .f-long)
 
--- src/lib.rt:147:5
 insert-vertex-requires : tie.Need-insert-vertex-requires
 insert-vertex-requires c κs =
     let s = (c .before .before .before .before .before) in
@@ -68,19 +54,15 @@ insert-vertex-requires c κs =
     let z = sym (toZ-ofZ (s .fits .value)) in
     (part-room (s .args .v) (s .args .e) (s .args .f) (s .args .vertices .now) (s .args .edges .now) (s .args .faces .now) (s .pre .0) (s .pre .1 .0) (s .pre .1 .1 .few), (subst Accepted (sym p) (s .pre .1 .0), subst (λ (x : ℤ). Askable (oldOf (take (4 * s .args .v + 4) (s .args .vertices .now)) (take (4 * s .args .e + 24) (s .args .edges .now)) (take (s .args .f + 2) (s .args .faces .now)) (s .args .v) (s .args .e) (s .args .f)) (s .args .q) x) z (subst (λ (c : Chart). Askable c (s .args .q) (s .args .value)) (sym p) (s .pre .1 .1))))
 
--- src/lib.rt:131:1
 same-length : tie.Need-same-length
 same-length c = search needs
 
--- src/lib.rt:131:1
 same-length-2 : tie.Need-same-length-2
 same-length-2 c = search needs
 
--- src/lib.rt:131:1
 same-length-3 : tie.Need-same-length-3
 same-length-3 c = search needs
 
--- src/lib.rt:131:1
 returns : tie.Need-returns
 returns c =
     let s = (c .before .before .before .before .before .before .before .before .before .before .before) in

@@ -1,3 +1,4 @@
+-- `insertion::insert_in_face` meets its contract: the vertex is joined, then edges are flipped. Assumes nothing.
 use mathlib.Core.Path.{_≡_, ap, _∙_}
 use lib.IntN.{ℤ}
 use mir.Facts.{toZ-ofZ}
@@ -10,32 +11,22 @@ use Rattle.insertion.specs.Outcome.{face-asks, face-leaves}
 use borrow.Author.Needs.{needs}
 use Rattle.insertion.proofs.insert_in_face.Statement.{statement}
 use Rattle.insertion.proofs.insert_in_face.Tie as tie
-use Rattle.insertion.proofs.insert_in_face.Reads as reads
-use Rattle.insertion.proofs.insert_in_face.Lts as lts
-use Rattle.legal.proofs.legalize.Reads as legalize-reads
-use Rattle.rewire.proofs.insert_into_triangle.Reads as insert-into-triangle-reads
 
--- src/lib.rt:55:5
 insert-into-triangle-requires : tie.Need-insert-into-triangle-requires
 insert-into-triangle-requires c κs = let s = (c .before .before .before .before .before) in (s .pre .0, (sound-wired (s .pre .1 .0 .sound), s .pre .1 .1 .1 .inner))
 
--- src/lib.rt:56:5
 legalize-requires : tie.Need-legalize-requires
 legalize-requires c κs = let s = (c .before .before .before .before .before .before .before .before .before .before .before .before .before .before) in face-asks (s .args .vertices .now) (s .args .edges .now) (s .args .faces .now) (s .args .n) (s .args .h) (s .args .f) (s .pre .0) (s .pre .1 .0) (s .args .q) (s .args .value) (s .pre .1 .1 .0) (s .args .e) (s .pre .1 .1 .1) (chartOf ((c .before .before .before .before .before .before .before .before .insert-into-triangle) .last .0) ((c .before .before .before .before .before .before .before .before .insert-into-triangle) .last .1 .0) ((c .before .before .before .before .before .before .before .before .insert-into-triangle) .last .1 .1 .0)) ((c .before .before .before .before .before .before .before .before .insert-into-triangle) .ensures .0 ∙ ap (λ (z : ℤ). inserted (oldOf (s .args .vertices .now) (s .args .edges .now) (s .args .faces .now) (s .args .n) (s .args .h) (s .args .f)) (s .args .e) (s .args .q) z) (toZ-ofZ (s .fits .value)))
 
--- src/lib.rt:41:1
 same-length : tie.Need-same-length
 same-length c = search needs
 
--- src/lib.rt:41:1
 same-length-2 : tie.Need-same-length-2
 same-length-2 c = search needs
 
--- src/lib.rt:41:1
 same-length-3 : tie.Need-same-length-3
 same-length-3 c = search needs
 
--- src/lib.rt:41:1
 returns : tie.Need-returns
 returns c = let s = (c .before .before .before .before .before .before .before .before .before .before .before .before .before .before .before .before .before .before .before .before) in (face-leaves (s .args .vertices .now) (s .args .edges .now) (s .args .faces .now) (s .args .n) (s .args .h) (s .args .f) (s .pre .0) (s .pre .1 .0) (s .args .q) (s .args .value) (s .pre .1 .1 .0) (s .args .e) (s .pre .1 .1 .1) (chartOf ((c .before .before .before .before .before .before .before .before .before .before .before .before .before .before .insert-into-triangle) .last .0) ((c .before .before .before .before .before .before .before .before .before .before .before .before .before .before .insert-into-triangle) .last .1 .0) ((c .before .before .before .before .before .before .before .before .before .before .before .before .before .before .insert-into-triangle) .last .1 .1 .0)) ((c .before .before .before .before .before .before .before .before .before .before .before .before .before .before .insert-into-triangle) .ensures .0 ∙ ap (λ (z : ℤ). inserted (oldOf (s .args .vertices .now) (s .args .edges .now) (s .args .faces .now) (s .args .n) (s .args .h) (s .args .f)) (s .args .e) (s .args .q) z) (toZ-ofZ (s .fits .value))) (chartOf ((c .before .before .before .before .before .legalize) .last .0) ((c .before .before .before .before .before .legalize) .last .1 .0) ((c .before .before .before .before .before .legalize) .last .1 .1 .0)) ((c .before .before .before .before .before .legalize) .ensures .0), new-then (s .args .n) (s .args .vertices .now) ((c .before .before .before .before .before .before .before .before .before .before .before .before .before .before .insert-into-triangle) .last .0) ((c .before .before .before .before .before .legalize) .last .0) ((c .before .before .before .before .before .before .before .before .before .before .before .before .before .before .insert-into-triangle) .ensures .1) ((c .before .before .before .before .before .legalize) .ensures .1))
 

@@ -1,3 +1,4 @@
+-- `insertion::insert_on_edge` meets its contract: the vertex is joined, then edges are flipped. Assumes nothing.
 use mathlib.Core.Path.{_≡_, ap, _∙_}
 use lib.IntN.{ℤ}
 use mir.Facts.{toZ-ofZ}
@@ -10,32 +11,22 @@ use Rattle.insertion.specs.Outcome.{edge-asks, edge-leaves}
 use borrow.Author.Needs.{needs}
 use Rattle.insertion.proofs.insert_on_edge.Statement.{statement}
 use Rattle.insertion.proofs.insert_on_edge.Tie as tie
-use Rattle.insertion.proofs.insert_on_edge.Reads as reads
-use Rattle.insertion.proofs.insert_on_edge.Lts as lts
-use Rattle.legal.proofs.legalize.Reads as legalize-reads
-use Rattle.rewire.proofs.split_edge.Reads as split-edge-reads
 
--- src/lib.rt:74:5
 split-edge-requires : tie.Need-split-edge-requires
 split-edge-requires c κs = let s = (c .before .before .before .before .before) in (s .pre .0, (sound-wired (s .pre .1 .0 .sound), (s .pre .1 .1 .1 .inner, s .pre .1 .1 .1 .beyond)))
 
--- src/lib.rt:75:5
 legalize-requires : tie.Need-legalize-requires
 legalize-requires c κs = let s = (c .before .before .before .before .before .before .before .before .before .before .before .before .before .before) in edge-asks (s .args .vertices .now) (s .args .edges .now) (s .args .faces .now) (s .args .n) (s .args .h) (s .args .f) (s .pre .0) (s .pre .1 .0) (s .args .q) (s .args .value) (s .pre .1 .1 .0) (s .args .e) (s .pre .1 .1 .1) (chartOf ((c .before .before .before .before .before .before .before .before .split-edge) .last .0) ((c .before .before .before .before .before .before .before .before .split-edge) .last .1 .0) ((c .before .before .before .before .before .before .before .before .split-edge) .last .1 .1 .0)) ((c .before .before .before .before .before .before .before .before .split-edge) .ensures .0 ∙ ap (λ (z : ℤ). split (oldOf (s .args .vertices .now) (s .args .edges .now) (s .args .faces .now) (s .args .n) (s .args .h) (s .args .f)) (s .args .e) (s .args .q) z) (toZ-ofZ (s .fits .value)))
 
--- src/lib.rt:60:1
 same-length : tie.Need-same-length
 same-length c = search needs
 
--- src/lib.rt:60:1
 same-length-2 : tie.Need-same-length-2
 same-length-2 c = search needs
 
--- src/lib.rt:60:1
 same-length-3 : tie.Need-same-length-3
 same-length-3 c = search needs
 
--- src/lib.rt:60:1
 returns : tie.Need-returns
 returns c = let s = (c .before .before .before .before .before .before .before .before .before .before .before .before .before .before .before .before .before .before .before .before) in (edge-leaves (s .args .vertices .now) (s .args .edges .now) (s .args .faces .now) (s .args .n) (s .args .h) (s .args .f) (s .pre .0) (s .pre .1 .0) (s .args .q) (s .args .value) (s .pre .1 .1 .0) (s .args .e) (s .pre .1 .1 .1) (chartOf ((c .before .before .before .before .before .before .before .before .before .before .before .before .before .before .split-edge) .last .0) ((c .before .before .before .before .before .before .before .before .before .before .before .before .before .before .split-edge) .last .1 .0) ((c .before .before .before .before .before .before .before .before .before .before .before .before .before .before .split-edge) .last .1 .1 .0)) ((c .before .before .before .before .before .before .before .before .before .before .before .before .before .before .split-edge) .ensures .0 ∙ ap (λ (z : ℤ). split (oldOf (s .args .vertices .now) (s .args .edges .now) (s .args .faces .now) (s .args .n) (s .args .h) (s .args .f)) (s .args .e) (s .args .q) z) (toZ-ofZ (s .fits .value))) (chartOf ((c .before .before .before .before .before .legalize) .last .0) ((c .before .before .before .before .before .legalize) .last .1 .0) ((c .before .before .before .before .before .legalize) .last .1 .1 .0)) ((c .before .before .before .before .before .legalize) .ensures .0), new-then (s .args .n) (s .args .vertices .now) ((c .before .before .before .before .before .before .before .before .before .before .before .before .before .before .split-edge) .last .0) ((c .before .before .before .before .before .legalize) .last .0) ((c .before .before .before .before .before .before .before .before .before .before .before .before .before .before .split-edge) .ensures .1) ((c .before .before .before .before .before .legalize) .ensures .1))
 

@@ -1,3 +1,4 @@
+-- `insertion::insert_vertex` meets its contract: one case of the site after the other. Assumes nothing.
 use mathlib.Core.Path.{_≡_, refl, sym, subst, ap, _∙_}
 use Prim.Native.Nat.{_*_}
 use native.Mathlib.Omega.{arith}
@@ -13,123 +14,92 @@ use Rattle.insertion.specs.Outcome.{went-inside, went-across, stayed}
 use borrow.Author.Needs.{needs}
 use Rattle.insertion.proofs.insert_vertex.Statement.{statement}
 use Rattle.insertion.proofs.insert_vertex.Tie as tie
-use Rattle.insertion.proofs.insert_vertex.Reads as reads
-use Rattle.insertion.proofs.insert_vertex.Lts as lts
-use Rattle.insertion.proofs.insert_in_face.Reads as insert-in-face-reads
-use Rattle.insertion.proofs.insert_on_edge.Reads as insert-on-edge-reads
-use Rattle.sites.proofs.site_at.Reads as site-at-reads
 
--- src/lib.rt:92:13
 mul-a : tie.Need-mul-a
 mul-a c = search needs
 
--- src/lib.rt:93:13
 mul-b : tie.Need-mul-b
 mul-b c = search needs
 
--- src/lib.rt:94:24
 slice-reshare-prefix-site-at : tie.Need-slice-reshare-prefix-site-at
 slice-reshare-prefix-site-at c = search needs
 
--- src/lib.rt:94:24
 slice-aggregate-site-at : tie.Need-slice-aggregate-site-at
 slice-aggregate-site-at c = let s = (c .before .before .before) in let e = s .pre .0 .v-long in sym (length-take-le (4 * s .args .n) (s .args .vertices .now) (omega arith))
 
--- src/lib.rt:94:40
 slice-reshare-prefix-site-at-2 : tie.Need-slice-reshare-prefix-site-at-2
 slice-reshare-prefix-site-at-2 c = search needs
 
--- src/lib.rt:94:40
 slice-aggregate-site-at-2 : tie.Need-slice-aggregate-site-at-2
 slice-aggregate-site-at-2 c = let s = (c .before .before .before .before) in let e = s .pre .0 .e-long in sym (length-take-le (4 * s .args .h) (s .args .edges .now) (omega arith))
 
--- src/lib.rt:94:53
 slice-reshare-prefix-site-at-3 : tie.Need-slice-reshare-prefix-site-at-3
 slice-reshare-prefix-site-at-3 c = search needs
 
--- src/lib.rt:94:53
 slice-aggregate-site-at-3 : tie.Need-slice-aggregate-site-at-3
 slice-aggregate-site-at-3 c = let s = (c .before .before .before .before .before) in let e = s .pre .0 .f-long in sym (length-take-le (s .args .f) (s .args .faces .now) (omega arith))
 
--- src/lib.rt:94:9
 site-at-requires : tie.Need-site-at-requires
 site-at-requires c κs = search needs
 
--- src/lib.rt:96:22
 enum-known-site : tie.Need-enum-known-site
 enum-known-site c = search needs
 
--- src/lib.rt:97:13
 insert-in-face-requires : tie.Need-insert-in-face-requires
 insert-in-face-requires c κs =
     let s = (c .before .before .before .before .before .before .before .before .before .before .before .before) in
     (s .pre .0, (s .pre .1 .0, (subst (λ (z : ℤ). Askable (oldOf (s .args .vertices .now) (s .args .edges .now) (s .args .faces .now) (s .args .n) (s .args .h) (s .args .f)) (s .args .q) z) (sym (toZ-ofZ (s .fits .value))) (s .pre .1 .1), face-site (oldOf (s .args .vertices .now) (s .args .edges .now) (s .args .faces .now) (s .args .n) (s .args .h) (s .args .f)) (s .pre .1 .0) (s .args .q) ((c .before .before .before .before .site) .given .0 .0) (sym ((c .before .before .before .before .before .before .site-at) .ensures) ∙ (c .before .before .before .before .site) .given .1))))
 
--- src/lib.rt:100:22
 enum-known-site-2 : tie.Need-enum-known-site-2
 enum-known-site-2 c = search needs
 
--- src/lib.rt:101:13
 insert-on-edge-requires : tie.Need-insert-on-edge-requires
 insert-on-edge-requires c κs =
     let s = (c .before .before .before .before .before .before .before .before .before .before .before .before) in
     (s .pre .0, (s .pre .1 .0, (subst (λ (z : ℤ). Askable (oldOf (s .args .vertices .now) (s .args .edges .now) (s .args .faces .now) (s .args .n) (s .args .h) (s .args .f)) (s .args .q) z) (sym (toZ-ofZ (s .fits .value))) (s .pre .1 .1), edge-site (oldOf (s .args .vertices .now) (s .args .edges .now) (s .args .faces .now) (s .args .n) (s .args .h) (s .args .f)) (s .pre .1 .0) (s .args .q) ((c .before .before .before .before .site2) .given .0 .0) (sym ((c .before .before .before .before .before .before .site-at) .ensures) ∙ (c .before .before .before .before .site2) .given .1))))
 
--- src/lib.rt:104:23
 enum-told : tie.Need-enum-told
 enum-told c = search needs
 
--- src/lib.rt:79:1
 same-length : tie.Need-same-length
 same-length c = search needs
 
--- src/lib.rt:79:1
 same-length-2 : tie.Need-same-length-2
 same-length-2 c = search needs
 
--- src/lib.rt:79:1
 same-length-3 : tie.Need-same-length-3
 same-length-3 c = search needs
 
--- src/lib.rt:79:1
 returns : tie.Need-returns
 returns c =
     let s = (c .before .before .before .before .before .before .before .before .before .before .before .before .before .before .before .before .before .before) in
     let d : Chart = chartOf ((c .before .before .before .before .before .insert-in-face) .last .0) ((c .before .before .before .before .before .insert-in-face) .last .1 .0) ((c .before .before .before .before .before .insert-in-face) .last .1 .1 .0) in
     (went-inside (oldOf (s .args .vertices .now) (s .args .edges .now) (s .args .faces .now) (s .args .n) (s .args .h) (s .args .f)) (s .args .q) (s .args .value) d _ ((sym ((c .before .before .before .before .before .before .before .before .before .before .before .before .site-at) .ensures) ∙ (c .before .before .before .before .before .before .before .before .before .before .site) .given .1)) (subst (λ (z : ℤ). Joined (oldOf (s .args .vertices .now) (s .args .edges .now) (s .args .faces .now) (s .args .n) (s .args .h) (s .args .f)) (s .args .q) z d) (toZ-ofZ (s .fits .value)) ((c .before .before .before .before .before .insert-in-face) .ensures .0)), (c .before .before .before .before .before .insert-in-face) .ensures .1 .keeps, λ p. (c .before .before .before .before .before .insert-in-face) .ensures .1 .new)
 
--- src/lib.rt:79:1
 same-length-4 : tie.Need-same-length-4
 same-length-4 c = search needs
 
--- src/lib.rt:79:1
 same-length-5 : tie.Need-same-length-5
 same-length-5 c = search needs
 
--- src/lib.rt:79:1
 same-length-6 : tie.Need-same-length-6
 same-length-6 c = search needs
 
--- src/lib.rt:79:1
 returns-2 : tie.Need-returns-2
 returns-2 c =
     let s = (c .before .before .before .before .before .before .before .before .before .before .before .before .before .before .before .before .before .before) in
     let d : Chart = chartOf ((c .before .before .before .before .before .insert-on-edge) .last .0) ((c .before .before .before .before .before .insert-on-edge) .last .1 .0) ((c .before .before .before .before .before .insert-on-edge) .last .1 .1 .0) in
     (went-across (oldOf (s .args .vertices .now) (s .args .edges .now) (s .args .faces .now) (s .args .n) (s .args .h) (s .args .f)) (s .args .q) (s .args .value) d _ ((sym ((c .before .before .before .before .before .before .before .before .before .before .before .before .site-at) .ensures) ∙ (c .before .before .before .before .before .before .before .before .before .before .site2) .given .1)) (subst (λ (z : ℤ). Joined (oldOf (s .args .vertices .now) (s .args .edges .now) (s .args .faces .now) (s .args .n) (s .args .h) (s .args .f)) (s .args .q) z d) (toZ-ofZ (s .fits .value)) ((c .before .before .before .before .before .insert-on-edge) .ensures .0)), (c .before .before .before .before .before .insert-on-edge) .ensures .1 .keeps, λ p. (c .before .before .before .before .before .insert-on-edge) .ensures .1 .new)
 
--- src/lib.rt:79:1
 same-length-7 : tie.Need-same-length-7
 same-length-7 c = search needs
 
--- src/lib.rt:79:1
 same-length-8 : tie.Need-same-length-8
 same-length-8 c = search needs
 
--- src/lib.rt:79:1
 same-length-9 : tie.Need-same-length-9
 same-length-9 c = search needs
 
--- src/lib.rt:79:1
 returns-3 : tie.Need-returns-3
 returns-3 c = let s = (c .before .before .before .before .before .before .before .before) in (stayed (oldOf (s .args .vertices .now) (s .args .edges .now) (s .args .faces .now) (s .args .n) (s .args .h) (s .args .f)) (s .args .q) (s .args .value) _ (sym ((c .before .before .site-at) .ensures) ∙ (c .enum-told) .given .1), λ u o. o, λ p. let o : ⊥ = omega arith in absurd o)
 

@@ -1,3 +1,4 @@
+-- `legal::find_flip` meets its contract: the first half-edge that passes, by the loop's invariant. Assumes nothing.
 use mathlib.Core.Path.{_≡_, sym, _∙_}
 use Prim.Native.Nat.{_-_, _≤_}
 use native.Mathlib.Omega.{arith}
@@ -8,9 +9,6 @@ use Rattle.chart.specs.Chart.{chartOf}
 use Rattle.legal.specs.Legal.{wantsFlip}
 use Rattle.legal.proofs.find_flip.Statement.{statement}
 use Rattle.legal.proofs.find_flip.Tie as tie
-use Rattle.legal.proofs.find_flip.Reads as reads
-use Rattle.legal.proofs.find_flip.Lts as lts
-use Rattle.legal.proofs.wants_flip.Reads as wants-flip-reads
 
 abbrev Inv-loop : tie.InvT-loop
 Inv-loop vertices edges faces n m h₀ h =
@@ -19,31 +17,24 @@ Inv-loop vertices edges faces n m h₀ h =
 abbrev μ-loop : tie.MeasureT-loop
 μ-loop vertices edges faces n m h₀ h = rows edges - h
 
--- src/lib.rt:38:5
 loop-holds : tie.Need-loop-holds Inv-loop μ-loop
 loop-holds c = (omega arith, first-from _ _)
 
--- src/lib.rt:39:12
 wants-flip-requires : tie.Need-wants-flip-requires Inv-loop μ-loop
 wants-flip-requires c κs = let s = c .before .before .before .before in (s .pre .0, (s .pre .1, c .loop-test .taken))
 
--- src/lib.rt:40:13
 returns : tie.Need-returns Inv-loop μ-loop
 returns c = sym ((c .before .before .before .loop) .inv .1 ∙ from-hit _ _ _ ((c .before .before .loop-test) .taken) (sym ((c .before .wants-flip) .ensures) ∙ (c .if1) .taken))
 
--- src/lib.rt:42:9
 add-h : tie.Need-add-h Inv-loop μ-loop
 add-h c = search needs
 
--- src/lib.rt:38:5
 loop-less : tie.Need-loop-less Inv-loop μ-loop
 loop-less c = let l = (c .before .before .loop-test) .taken in omega arith
 
--- src/lib.rt:38:5
 loop-again : tie.Need-loop-again Inv-loop μ-loop
 loop-again c = (let l = (c .before .before .loop-test) .taken in omega arith, (c .before .before .before .loop) .inv .1 ∙ from-miss _ _ _ ((c .before .before .loop-test) .taken) (sym ((c .before .wants-flip) .ensures) ∙ (c .if1) .left))
 
--- src/lib.rt:32:1
 returns-2 : tie.Need-returns-2 Inv-loop μ-loop
 returns-2 c = sym ((c .before .loop) .inv .1 ∙ from-end _ _ _ ((c .loop-test) .left))
 

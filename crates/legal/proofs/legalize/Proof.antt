@@ -1,3 +1,4 @@
+-- `legal::legalize` meets its contract: the loop's invariant: reached by flips; each flip adds a half-edge that leaves the vertex. Assumes nothing.
 use mathlib.Core.Path.{refl}
 use Prim.Native.Nat.{_-_}
 use native.Mathlib.Omega.{arith}
@@ -6,10 +7,6 @@ use Rattle.chart.specs.Chart.{chartOf}
 use Rattle.legal.specs.Legal.{degree, begun, ended, Turning, last-in, turning-in, turned, turned-less, turned-on}
 use Rattle.legal.proofs.legalize.Statement.{statement}
 use Rattle.legal.proofs.legalize.Tie as tie
-use Rattle.legal.proofs.legalize.Reads as reads
-use Rattle.legal.proofs.legalize.Lts as lts
-use Rattle.legal.proofs.find_flip.Reads as find-flip-reads
-use Rattle.rewire.proofs.flip_cw.Reads as flip-cw-reads
 
 abbrev Inv-loop : tie.InvT-loop
 Inv-loop vertices₀ edges₀ faces₀ n m h₀ vertices edges faces h = Turning vertices₀ edges₀ faces₀ vertices edges faces n h
@@ -17,43 +14,33 @@ Inv-loop vertices₀ edges₀ faces₀ n m h₀ vertices edges faces h = Turning
 abbrev μ-loop : tie.MeasureT-loop
 μ-loop vertices₀ edges₀ faces₀ n m h₀ vertices edges faces h = rows edges - degree (chartOf vertices edges faces) n
 
--- src/lib.rt:53:9
 find-flip-requires : tie.Need-find-flip-requires Inv-loop μ-loop
 find-flip-requires c κs = let s = (c .before .before .before .before .before) in (s .pre .0, last-in (s .pre .1))
 
--- src/lib.rt:54:5
 loop-holds : tie.Need-loop-holds Inv-loop μ-loop
 loop-holds c = let s = (c .before .before .before .before .before .before) in record { reached = begun _ _ (s .pre .1) (s .pre .0); next = (c .find-flip) .ensures; v-long = refl; e-long = refl; f-long = refl; outed = λ u o. o }
 
--- src/lib.rt:55:9
 flip-cw-requires : tie.Need-flip-cw-requires Inv-loop μ-loop
 flip-cw-requires c κs = let s = (c .before .before .before .before .before .before .before .before .before .before .before) in ((c .before .before .before .before .loop) .inv .reached .range, turning-in (s .args .vertices .now) (s .args .edges .now) (s .args .faces .now) ((c .before .before .before .before .loop) .vertices) ((c .before .before .before .before .loop) .edges) ((c .before .before .before .before .loop) .faces) (s .args .n) ((c .before .before .before .before .loop) .h) ((c .before .before .before .before .loop) .inv) ((c .before .before .before .loop-test) .taken))
 
--- src/lib.rt:56:9
 find-flip-requires-2 : tie.Need-find-flip-requires-2 Inv-loop μ-loop
 find-flip-requires-2 c κs = let s = (c .before .before .before .before .before .before .before .before .before .before .before .before .before .before .before .before .before .before .before .before) in let r = turned (s .args .vertices .now) (s .args .edges .now) (s .args .faces .now) ((c .before .before .before .before .before .before .before .before .before .before .before .before .before .loop) .vertices) ((c .before .before .before .before .before .before .before .before .before .before .before .before .before .loop) .edges) ((c .before .before .before .before .before .before .before .before .before .before .before .before .before .loop) .faces) (s .args .n) ((c .before .before .before .before .before .before .before .before .before .before .before .before .before .loop) .h) ((c .before .before .before .before .before .before .before .before .before .before .before .before .before .loop) .inv) ((c .before .before .before .before .before .before .before .before .before .before .before .before .loop-test) .taken) ((c .before .before .before .before .before .before .before .before .flip-cw) .last .0) ((c .before .before .before .before .before .before .before .before .flip-cw) .last .1 .0) ((c .before .before .before .before .before .before .before .before .flip-cw) .last .1 .1 .0) ((c .before .before .before .before .before .before .before .before .flip-cw) .ensures .0) in (r .range, last-in (r .growing))
 
--- src/lib.rt:54:5
 loop-less : tie.Need-loop-less Inv-loop μ-loop
 loop-less c = let s = (c .before .before .before .before .before .before .before .before .before .before .before .before .before .before .before .before .before .before .before .before .before) in turned-less (s .args .vertices .now) (s .args .edges .now) (s .args .faces .now) ((c .before .before .before .before .before .before .before .before .before .before .before .before .before .before .loop) .vertices) ((c .before .before .before .before .before .before .before .before .before .before .before .before .before .before .loop) .edges) ((c .before .before .before .before .before .before .before .before .before .before .before .before .before .before .loop) .faces) (s .args .n) ((c .before .before .before .before .before .before .before .before .before .before .before .before .before .before .loop) .h) ((c .before .before .before .before .before .before .before .before .before .before .before .before .before .before .loop) .inv) ((c .before .before .before .before .before .before .before .before .before .before .before .before .before .loop-test) .taken) ((c .before .before .before .before .before .before .before .before .before .flip-cw) .last .0) ((c .before .before .before .before .before .before .before .before .before .flip-cw) .last .1 .0) ((c .before .before .before .before .before .before .before .before .before .flip-cw) .last .1 .1 .0) ((c .before .before .before .before .before .before .before .before .before .flip-cw) .ensures .0)
 
--- src/lib.rt:54:5
 loop-again : tie.Need-loop-again Inv-loop μ-loop
 loop-again c = let s = (c .before .before .before .before .before .before .before .before .before .before .before .before .before .before .before .before .before .before .before .before .before) in turned-on (s .args .vertices .now) (s .args .edges .now) (s .args .faces .now) ((c .before .before .before .before .before .before .before .before .before .before .before .before .before .before .loop) .vertices) ((c .before .before .before .before .before .before .before .before .before .before .before .before .before .before .loop) .edges) ((c .before .before .before .before .before .before .before .before .before .before .before .before .before .before .loop) .faces) (s .args .n) ((c .before .before .before .before .before .before .before .before .before .before .before .before .before .before .loop) .h) ((c .before .before .before .before .before .before .before .before .before .before .before .before .before .before .loop) .inv) ((c .before .before .before .before .before .before .before .before .before .before .before .before .before .loop-test) .taken) ((c .before .before .before .before .before .before .before .before .before .flip-cw) .last .0) ((c .before .before .before .before .before .before .before .before .before .flip-cw) .last .1 .0) ((c .before .before .before .before .before .before .before .before .before .flip-cw) .last .1 .1 .0) ((c .before .before .before .before .before .before .before .before .before .flip-cw) .ensures .0) ((c .find-flip2) .result) ((c .find-flip2) .ensures) ((c .before .before .before .before .before .before .before .before .before .flip-cw) .kept .0) ((c .before .before .before .before .before .before .before .before .before .flip-cw) .kept .1 .0) ((c .before .before .before .before .before .before .before .before .before .flip-cw) .kept .1 .1 .0) ((c .before .before .before .before .before .before .before .before .before .flip-cw) .ensures .1)
 
--- src/lib.rt:48:1
 same-length : tie.Need-same-length Inv-loop μ-loop
 same-length c = (c .before .loop) .inv .v-long
 
--- src/lib.rt:48:1
 same-length-2 : tie.Need-same-length-2 Inv-loop μ-loop
 same-length-2 c = (c .before .loop) .inv .e-long
 
--- src/lib.rt:48:1
 same-length-3 : tie.Need-same-length-3 Inv-loop μ-loop
 same-length-3 c = (c .before .loop) .inv .f-long
 
--- src/lib.rt:48:1
 returns : tie.Need-returns Inv-loop μ-loop
 returns c = let s = (c .before .before .before .before .before .before .before .before) in (ended _ _ _ ((c .before .loop) .h) ((c .before .loop) .inv .reached) ((c .before .loop) .inv .next) (let l = (c .loop-test) .left in let e = (c .before .loop) .inv .e-long in omega arith), (c .before .loop) .inv .outed)
 

@@ -1,3 +1,4 @@
+-- `legal::wants_flip` meets its contract: the tests in their order. Assumes nothing.
 use Prim.Native.Nat.{_<_}
 use Rattle.chart.specs.Tables.{rows}
 use mathlib.Core.Path.{sym}
@@ -7,76 +8,51 @@ use Rattle.legal.specs.Legal.{wants-outer, wants-other, wants-rim, wants
 use borrow.Author.Needs.{needs}
 use Rattle.legal.proofs.wants_flip.Statement.{statement}
 use Rattle.legal.proofs.wants_flip.Tie as tie
-use Rattle.legal.proofs.wants_flip.Reads as reads
-use Rattle.legal.proofs.wants_flip.Lts as lts
-use Rattle.chart.proofs.face_of.Reads as face-of-reads
-use Rattle.chart.proofs.from_of.Reads as from-of-reads
-use Rattle.chart.proofs.origin_of.Reads as origin-of-reads
-use Rattle.chart.proofs.partner_of.Reads as partner-of-reads
-use Rattle.chart.proofs.place_of.Reads as place-of-reads
-use Rattle.chart.proofs.prev_of.Reads as prev-of-reads
-use Rattle.chart.proofs.to_of.Reads as to-of-reads
-use Rattle.geometry.proofs.contained_in_circumference.Reads as contained-in-circumference-reads
 
--- src/lib.rt:15:8
 face-of-requires : tie.Need-face-of-requires
 face-of-requires c κs = search needs
 
--- src/lib.rt:16:9
 returns : tie.Need-returns
 returns c = let s = (c .before .before .before .before) in wants-outer (chartOf (s .args .vertices .now) (s .args .edges .now) (s .args .faces .now)) (s .args .n) (s .args .h) _ ((c .before .face-of) .ensures) ((c .if1) .taken)
 
--- src/lib.rt:18:32
 prev-of-requires : tie.Need-prev-of-requires
 prev-of-requires c κs = search needs
 
--- src/lib.rt:18:8
 origin-of-requires : tie.Need-origin-of-requires
 origin-of-requires c κs = let s = (c .before .before .before .before .before) in omega (arith, s .pre .0 .prevs (s .args .h) (s .pre .1 .1), (c .prev-of) .ensures)
 
--- src/lib.rt:19:9
 returns-2 : tie.Need-returns-2
 returns-2 c = let s = (c .before .before .before .before .before .before .before) in wants-other (chartOf (s .args .vertices .now) (s .args .edges .now) (s .args .faces .now)) (s .args .n) (s .args .h) _ _ ((c .before .before .prev-of) .ensures) ((c .before .origin-of) .ensures) ((c .if2) .taken)
 
--- src/lib.rt:21:9
 partner-of-requires : tie.Need-partner-of-requires
 partner-of-requires c κs = search needs
 
--- src/lib.rt:22:8
 face-of-requires-2 : tie.Need-face-of-requires-2
 face-of-requires-2 c κs = let s = (c .before .before .before .before .before .before .before .before) in omega (arith, partner-in (s .pre .0) (s .args .h) (s .pre .1 .1), (c .partner-of) .ensures)
 
--- src/lib.rt:23:9
 returns-3 : tie.Need-returns-3
 returns-3 c = let s = (c .before .before .before .before .before .before .before .before .before .before) in wants-rim (chartOf (s .args .vertices .now) (s .args .edges .now) (s .args .faces .now)) (s .args .n) (s .args .h) _ _ ((c .before .before .partner-of) .ensures) ((c .before .face-of2) .ensures) ((c .if3) .taken)
 
--- src/lib.rt:25:9
 to-of-requires : tie.Need-to-of-requires
 to-of-requires c κs = search needs
 
--- src/lib.rt:26:9
 from-of-requires : tie.Need-from-of-requires
 from-of-requires c κs = search needs
 
--- src/lib.rt:27:52
 prev-of-requires-2 : tie.Need-prev-of-requires-2
 prev-of-requires-2 c κs = let s = (c .before .before .before .before .before .before .before .before .before .before .before .before) in omega (arith, partner-in (s .pre .0) (s .args .h) (s .pre .1 .1), (c .before .before .before .before .partner-of) .ensures)
 
--- src/lib.rt:27:9
 from-of-requires-2 : tie.Need-from-of-requires-2
 from-of-requires-2 c κs = let s = (c .before .before .before .before .before .before .before .before .before .before .before .before .before) in let t : (c .before .before .before .before .before .partner-of) .result < rows (s .args .edges .now) = omega (arith, partner-in (s .pre .0) (s .args .h) (s .pre .1 .1), (c .before .before .before .before .before .partner-of) .ensures) in (s .pre .0, omega (arith, s .pre .0 .prevs ((c .before .before .before .before .before .partner-of) .result) t, (c .prev-of2) .ensures))
 
--- src/lib.rt:28:51
 place-of-requires : tie.Need-place-of-requires
 place-of-requires c κs = let s = (c .before .before .before .before .before .before .before .before .before .before .before .before .before .before) in s .pre .1 .0
 
--- src/lib.rt:28:5
 contained-in-circumference-requires : tie.Need-contained-in-circumference-requires
 contained-in-circumference-requires c κs =
     let s = (c .before .before .before .before .before .before .before .before .before .before .before .before .before .before .before) in
     ((c .before .before .before .before .to-of) .ensures .1, ((c .before .before .before .from-of) .ensures .1, ((c .before .from-of2) .ensures .1, rw ((c .place-of) .ensures) (s .pre .0 .places (s .args .n) (s .pre .1 .0)))))
 
--- src/lib.rt:11:1
 returns-4 : tie.Need-returns-4
 returns-4 c =
     let s = (c .before .before .before .before .before .before .before .before .before .before .before .before .before .before .before .before) in

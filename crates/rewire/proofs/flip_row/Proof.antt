@@ -1,44 +1,31 @@
+-- `rewire::flip_row` meets its contract: each number is read from its column. Assumes nothing.
 use mathlib.Core.Path.{sym}
 use native.Mathlib.Omega.{arith}
 use borrow.Author.Needs.{needs}
 use Rattle.rewire.proofs.flip_row.Statement.{statement}
 use Rattle.rewire.proofs.flip_row.Tie as tie
-use Rattle.rewire.proofs.flip_row.Reads as reads
-use Rattle.rewire.proofs.flip_row.Lts as lts
-use Rattle.chart.proofs.face_of.Reads as face-of-reads
-use Rattle.chart.proofs.next_of.Reads as next-of-reads
-use Rattle.chart.proofs.origin_of.Reads as origin-of-reads
-use Rattle.chart.proofs.prev_of.Reads as prev-of-reads
 
--- src/lib.rt:70:9
 prev-of-requires : tie.Need-prev-of-requires
 prev-of-requires c κs = search needs
 
--- src/lib.rt:71:9
 prev-of-requires-2 : tie.Need-prev-of-requires-2
 prev-of-requires-2 c κs = search needs
 
--- src/lib.rt:75:15
 next-of-requires : tie.Need-next-of-requires
 next-of-requires c κs = search needs
 
--- src/lib.rt:76:15
 face-of-requires : tie.Need-face-of-requires
 face-of-requires c κs = search needs
 
--- src/lib.rt:77:15
 origin-of-requires : tie.Need-origin-of-requires
 origin-of-requires c κs = let s = (c .before .before .before .before .before .before) in omega (arith, s .pre .0 .prevs (s .args .e) (s .pre .1 .0), (c .before .before .before .prev-of) .ensures)
 
--- src/lib.rt:78:13
 origin-of-requires-2 : tie.Need-origin-of-requires-2
 origin-of-requires-2 c κs = let s = (c .before .before .before .before .before .before .before) in omega (arith, s .pre .0 .prevs (s .args .t) (s .pre .1 .1), (c .before .before .before .prev-of2) .ensures)
 
--- src/lib.rt:79:15
 origin-of-requires-3 : tie.Need-origin-of-requires-3
 origin-of-requires-3 c κs = search needs
 
--- src/lib.rt:66:1
 returns : tie.Need-returns
 returns c = rw ((c .origin-of3) .ensures, (c .before .origin-of2) .ensures, (c .before .before .origin-of) .ensures, (c .before .before .before .face-of) .ensures, (c .before .before .before .before .next-of) .ensures, (c .before .before .before .before .before .prev-of2) .ensures, (c .before .before .before .before .before .before .prev-of) .ensures)
 

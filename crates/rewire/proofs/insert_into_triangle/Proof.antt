@@ -1,88 +1,97 @@
-use mathlib.Core.Path.{_≡_, sym, ap, _∙_}
+-- `rewire::insert_into_triangle` meets its contract: three triangles and a vertex are written, one after the other. Assumes nothing.
+use mathlib.Core.Path.{refl, ap, _∙_}
 use Prim.Native.Nat.{_+_}
+use native.Mathlib.Omega.{arith}
 use lib.IntN.{ℤ, pos}
 use mir.Facts.{toZ-ofZ}
 use Rattle.rewire.specs.Tables.{rowIn, row-outed}
-use native.Mathlib.Omega.{arith}
-use Rattle.rewire.specs.Grown.{row-asks, insert-fits, insert-done, inside-as, insertRow₀, insertRow₁}
+use Rattle.rewire.specs.Grown.{row-asks, inside-as, insert-fits, insert-done}
 use borrow.Author.Needs.{needs}
 use Rattle.rewire.proofs.insert_into_triangle.Statement.{statement}
 use Rattle.rewire.proofs.insert_into_triangle.Tie as tie
-use Rattle.rewire.proofs.insert_into_triangle.Reads as reads
-use Rattle.rewire.proofs.insert_into_triangle.Lts as lts
-use Rattle.rewire.proofs.put_triangle.Reads as put-triangle-reads
-use Rattle.rewire.proofs.put_vertex.Reads as put-vertex-reads
-use Rattle.rewire.proofs.row_of.Reads as row-of-reads
 
--- src/lib.rt:149:9
 row-of-requires : tie.Need-row-of-requires
-row-of-requires c κs = let s = (c .before .before .before) in row-asks (s .args .vertices .now) (s .args .edges .now) (s .args .faces .now) (s .args .n) (s .args .h) (s .args .f) (s .pre .0) (s .pre .1 .0) (s .args .e) (s .pre .1 .1 .0)
+row-of-requires c κs = let s = c .before .before .before in row-asks (s .args .vertices .now) (s .args .edges .now) (s .args .faces .now) (s .args .n) (s .args .h) (s .args .f) (s .pre .0) (s .pre .1 .0) (s .args .e) (s .pre .1 .1 .0)
 
--- src/lib.rt:155:19
-add-t18 : tie.Need-add-t18
-add-t18 c = search needs
+add-triangle : tie.Need-add-triangle
+add-triangle c = search needs
 
--- src/lib.rt:156:19
-add-t19 : tie.Need-add-t19
-add-t19 c = search needs
+add-triangle-2 : tie.Need-add-triangle-2
+add-triangle-2 c = search needs
 
--- src/lib.rt:157:19
-add-put-vertex : tie.Need-add-put-vertex
-add-put-vertex c = search needs
+add-triangle-3 : tie.Need-add-triangle-3
+add-triangle-3 c = search needs
 
--- src/lib.rt:150:5
+triangle-requires : tie.Need-triangle-requires
+triangle-requires c κs = search needs
+
+add-triangle-4 : tie.Need-add-triangle-4
+add-triangle-4 c = search needs
+
+add-triangle-5 : tie.Need-add-triangle-5
+add-triangle-5 c = let s = c .before .before .before .before .before in let e = s .pre .0 .e-long in omega arith
+
+triangle-requires-2 : tie.Need-triangle-requires-2
+triangle-requires-2 c κs = search needs
+
+add-triangle-6 : tie.Need-add-triangle-6
+add-triangle-6 c = search needs
+
+triangle-requires-3 : tie.Need-triangle-requires-3
+triangle-requires-3 c κs = search needs
+
 put-triangle-requires : tie.Need-put-triangle-requires
-put-triangle-requires c κs = let s = (c .before .before .before .before .before .before) in (insert-fits (s .args .vertices .now) (s .args .edges .now) (s .args .faces .now) (s .args .n) (s .args .h) (s .args .f) (s .pre .0) (s .pre .1 .0) (s .args .e) (s .pre .1 .1) ((c .before .before .row-of) .result) ((c .before .before .row-of) .ensures)) .2
+put-triangle-requires c κs =
+    let s = c .before .before .before .before .before .before .before .before .before in
+    let r = c .before .before .before .before .before .row-of in
+    inside-as (s .args .edges .now) (s .args .edges .now) (s .args .faces .now) (s .args .faces .now) (c .before .before .before .before .triangle .result) _ (c .before .before .before .before .triangle .ensures) refl refl (insert-fits (s .args .vertices .now) (s .args .edges .now) (s .args .faces .now) (s .args .n) (s .args .h) (s .args .f) (s .pre .0) (s .pre .1 .0) (s .args .e) (s .pre .1 .1) (r .result) (r .ensures) .2)
 
--- src/lib.rt:168:19
-add-t18-2 : tie.Need-add-t18-2
-add-t18-2 c = search needs
-
--- src/lib.rt:169:19
-add-put-vertex-2 : tie.Need-add-put-vertex-2
-add-put-vertex-2 c = search needs
-
--- src/lib.rt:163:5
 put-triangle-requires-2 : tie.Need-put-triangle-requires-2
-put-triangle-requires-2 c κs = let s = (c .before .before .before .before .before .before .before .before .before .before .before .before .before) in inside-as (s .args .edges .now) ((c .before .before .before .before .before .before .put-triangle) .last .0) (s .args .faces .now) ((c .before .before .before .before .before .before .put-triangle) .last .1 .0) (insertRow₁ ((c .before .before .before .before .before .before .before .before .before .row-of) .result) (s .args .n) (s .args .h) (s .args .f)) (sym ((c .before .before .before .before .before .before .put-triangle) .kept .0)) (sym ((c .before .before .before .before .before .before .put-triangle) .kept .1 .0)) ((insert-fits (s .args .vertices .now) (s .args .edges .now) (s .args .faces .now) (s .args .n) (s .args .h) (s .args .f) (s .pre .0) (s .pre .1 .0) (s .args .e) (s .pre .1 .1) ((c .before .before .before .before .before .before .before .before .before .row-of) .result) ((c .before .before .before .before .before .before .before .before .before .row-of) .ensures)) .1)
+put-triangle-requires-2 c κs =
+    let s = c .before .before .before .before .before .before .before .before .before .before .before .before .before .before .before .before in
+    let r = c .before .before .before .before .before .before .before .before .before .before .before .before .row-of in
+    let p = c .before .before .before .before .before .before .put-triangle in
+    inside-as (s .args .edges .now) (p .last .0) (s .args .faces .now) (p .last .1 .0) (c .before .before .before .before .before .before .before .before .before .before .triangle2 .result) _ (c .before .before .before .before .before .before .before .before .before .before .triangle2 .ensures) (p .kept .0) (p .kept .1 .0) (insert-fits (s .args .vertices .now) (s .args .edges .now) (s .args .faces .now) (s .args .n) (s .args .h) (s .args .f) (s .pre .0) (s .pre .1 .0) (s .args .e) (s .pre .1 .1) (r .result) (r .ensures) .1)
 
--- src/lib.rt:182:19
-add-t19-2 : tie.Need-add-t19-2
-add-t19-2 c = search needs
-
--- src/lib.rt:176:5
 put-triangle-requires-3 : tie.Need-put-triangle-requires-3
-put-triangle-requires-3 c κs = let s = (c .before .before .before .before .before .before .before .before .before .before .before .before .before .before .before .before .before .before .before .before) in inside-as (s .args .edges .now) ((c .before .before .before .before .before .before .put-triangle2) .last .0) (s .args .faces .now) ((c .before .before .before .before .before .before .put-triangle2) .last .1 .0) (insertRow₀ ((c .before .before .before .before .before .before .before .before .before .before .before .before .before .before .before .before .row-of) .result) (s .args .n) (s .args .h)) (sym ((c .before .before .before .before .before .before .put-triangle2) .kept .0 ∙ (c .before .before .before .before .before .before .before .before .before .before .before .before .before .put-triangle) .kept .0)) (sym ((c .before .before .before .before .before .before .put-triangle2) .kept .1 .0 ∙ (c .before .before .before .before .before .before .before .before .before .before .before .before .before .put-triangle) .kept .1 .0)) ((insert-fits (s .args .vertices .now) (s .args .edges .now) (s .args .faces .now) (s .args .n) (s .args .h) (s .args .f) (s .pre .0) (s .pre .1 .0) (s .args .e) (s .pre .1 .1) ((c .before .before .before .before .before .before .before .before .before .before .before .before .before .before .before .before .row-of) .result) ((c .before .before .before .before .before .before .before .before .before .before .before .before .before .before .before .before .row-of) .ensures)) .0)
+put-triangle-requires-3 c κs =
+    let s = c .before .before .before .before .before .before .before .before .before .before .before .before .before .before .before .before .before .before .before .before .before .before .before in
+    let r = c .before .before .before .before .before .before .before .before .before .before .before .before .before .before .before .before .before .before .before .row-of in
+    let p = c .before .before .before .before .before .before .before .before .before .before .before .before .before .put-triangle in
+    let q = c .before .before .before .before .before .before .put-triangle2 in
+    inside-as (s .args .edges .now) (q .last .0) (s .args .faces .now) (q .last .1 .0) (c .before .before .before .before .before .before .before .before .before .before .before .before .before .before .before .before .triangle3 .result) _ (c .before .before .before .before .before .before .before .before .before .before .before .before .before .before .before .before .triangle3 .ensures) (q .kept .0 ∙ p .kept .0) (q .kept .1 .0 ∙ p .kept .1 .0) (insert-fits (s .args .vertices .now) (s .args .edges .now) (s .args .faces .now) (s .args .n) (s .args .h) (s .args .f) (s .pre .0) (s .pre .1 .0) (s .args .e) (s .pre .1 .1) (r .result) (r .ensures) .0)
 
--- src/lib.rt:189:39
-add-put-vertex-3 : tie.Need-add-put-vertex-3
-add-put-vertex-3 c = search needs
+add-put-vertex : tie.Need-add-put-vertex
+add-put-vertex c = let s = c .before .before .before .before .before .before .before .before .before .before .before .before .before .before .before .before .before .before .before .before .before .before .before .before .before .before .before .before .before in let e = s .pre .0 .e-long in omega arith
 
--- src/lib.rt:189:5
 put-vertex-requires : tie.Need-put-vertex-requires
-put-vertex-requires c κs = search needs
+put-vertex-requires c κs = let s = c .before .before .before .before .before .before .before .before .before .before .before .before .before .before .before .before .before .before .before .before .before .before .before .before .before .before .before .before .before in let e = s .pre .0 .v-long in let g = s .pre .0 .e-long in (omega arith, omega arith)
 
--- src/lib.rt:135:1
 same-length : tie.Need-same-length
 same-length c = search needs
 
--- src/lib.rt:135:1
 same-length-2 : tie.Need-same-length-2
 same-length-2 c = search needs
 
--- src/lib.rt:135:1
 same-length-3 : tie.Need-same-length-3
 same-length-3 c = search needs
 
--- src/lib.rt:135:1
 returns : tie.Need-returns
 returns c =
-    let s = (c .before .before .before .before .before .before .before .before .before .before .before .before .before .before .before .before .before .before .before .before .before .before .before .before .before .before .before .before) in (
-      insert-done (s .args .vertices .now) (s .args .edges .now) (s .args .faces .now) (s .args .n) (s .args .h) (s .args .f) (s .pre .0) (s .pre .1 .0) (s .args .e) (s .pre .1 .1) ((c .before .before .before .before .before .before .before .before .before .before .before .before .before .before .before .before .before .before .before .before .before .before .before .before .row-of) .result) ((c .before .before .before .before .before .before .before .before .before .before .before .before .before .before .before .before .before .before .before .before .before .before .before .before .row-of) .ensures) (s .args .q) (s .args .value) ((c .before .put-vertex) .last .0)
-          ((c .before .before .before .before .before .before .before .before .before .before .before .before .before .before .before .before .before .before .before .before .before .put-triangle) .last .0) ((c .before .before .before .before .before .before .before .before .before .before .before .before .before .before .put-triangle2) .last .0) ((c .before .before .before .before .before .before .before .put-triangle3) .last .0) ((c .before .before .before .before .before .before .before .before .before .before .before .before .before .before .before .before .before .before .before .before .before .put-triangle) .last .1 .0) ((c .before .before .before .before .before .before .before .before .before .before .before .before .before .before .put-triangle2) .last .1 .0) ((c .before .before .before .before .before .before .before .put-triangle3) .last .1 .0)
-          ((c .before .before .before .before .before .before .before .before .before .before .before .before .before .before .before .before .before .before .before .before .before .put-triangle) .ensures .0) ((c .before .before .before .before .before .before .before .before .before .before .before .before .before .before .before .before .before .before .before .before .before .put-triangle) .ensures .1) ((c .before .before .before .before .before .before .before .before .before .before .before .before .before .before .put-triangle2) .ensures .0) ((c .before .before .before .before .before .before .before .before .before .before .before .before .before .before .put-triangle2) .ensures .1) ((c .before .before .before .before .before .before .before .put-triangle3) .ensures .0) ((c .before .before .before .before .before .before .before .put-triangle3) .ensures .1)
-          ((c .before .put-vertex) .ensures ∙ ap (λ (z : ℤ). rowIn (s .args .vertices .now) (s .args .n) (s .args .q .x) (s .args .q .y) z (pos (s .args .h + 1))) (toZ-ofZ (s .fits .value))),
-      row-outed (s .args .vertices .now) ((c .before .put-vertex) .last .0) _ _ _ _ _ (let e = s .pre .0 .v-long in omega arith) ((c .before .put-vertex) .ensures),
+    let s = c .before .before .before .before .before .before .before .before .before .before .before .before .before .before .before .before .before .before .before .before .before .before .before .before .before .before .before .before .before .before .before in
+    let r = c .before .before .before .before .before .before .before .before .before .before .before .before .before .before .before .before .before .before .before .before .before .before .before .before .before .before .before .row-of in
+    let x₂ = c .before .before .before .before .before .before .before .before .before .before .before .before .before .before .before .before .before .before .before .before .before .before .before .before .before .before .triangle in
+    let x₁ = c .before .before .before .before .before .before .before .before .before .before .before .before .before .before .before .before .before .before .before .before .before .before .before .before .before .triangle2 in
+    let x₀ = c .before .before .before .before .before .before .before .before .before .before .before .before .before .before .before .before .before .before .before .before .before .before .before .before .triangle3 in
+    let p = c .before .before .before .before .before .before .before .before .before .before .before .before .before .before .before .before .before .before .before .before .before .put-triangle in
+    let q = c .before .before .before .before .before .before .before .before .before .before .before .before .before .before .put-triangle2 in
+    let t = c .before .before .before .before .before .before .before .put-triangle3 in
+    let v = c .before .put-vertex in (
+      insert-done (s .args .vertices .now) (s .args .edges .now) (s .args .faces .now) (s .args .n) (s .args .h) (s .args .f) (s .pre .0) (s .pre .1 .0) (s .args .e) (s .pre .1 .1) (r .result) (r .ensures) (x₀ .result) (x₁ .result) (x₂ .result) (x₀ .ensures) (x₁ .ensures) (x₂ .ensures)
+          (s .args .q) (s .args .value) (v .last .0) (p .last .0) (q .last .0) (t .last .0) (p .last .1 .0) (q .last .1 .0) (t .last .1 .0)
+          (p .ensures .0) (p .ensures .1) (q .ensures .0) (q .ensures .1) (t .ensures .0) (t .ensures .1)
+          (v .ensures ∙ ap (λ (z : ℤ). rowIn (s .args .vertices .now) (s .args .n) (s .args .q .x) (s .args .q .y) z (pos (s .args .h + 1))) (toZ-ofZ (s .fits .value))),
+      row-outed (s .args .vertices .now) (v .last .0) _ _ _ _ _ (let e = s .pre .0 .v-long in omega arith) (v .ensures),
     )
 
 pub insert-into-triangle-spec : {M : Type 1} → statement M
@@ -90,16 +99,19 @@ insert-into-triangle-spec =
     tie.close
     (tie.spec
     row-of-requires
-    add-t18
-    add-t19
-    add-put-vertex
+    add-triangle
+    add-triangle-2
+    add-triangle-3
+    triangle-requires
+    add-triangle-4
+    add-triangle-5
+    triangle-requires-2
+    add-triangle-6
+    triangle-requires-3
     put-triangle-requires
-    add-t18-2
-    add-put-vertex-2
     put-triangle-requires-2
-    add-t19-2
     put-triangle-requires-3
-    add-put-vertex-3
+    add-put-vertex
     put-vertex-requires
     same-length
     same-length-2

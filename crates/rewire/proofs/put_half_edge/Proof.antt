@@ -1,3 +1,4 @@
+-- `rewire::put_half_edge` meets its contract: four numbers are stored, one after the other. Assumes nothing.
 use mathlib.Core.Path.{refl}
 use Prim.Native.Nat.{_+_, _*_}
 use native.Mathlib.Omega.{arith}
@@ -6,78 +7,59 @@ use Rattle.rewire.specs.Tables.{rowIn}
 use borrow.Author.Needs.{needs}
 use Rattle.rewire.proofs.put_half_edge.Statement.{statement}
 use Rattle.rewire.proofs.put_half_edge.Tie as tie
-use Rattle.rewire.proofs.put_half_edge.Reads as reads
-use Rattle.rewire.proofs.put_half_edge.Lts as lts
 
--- src/lib.rt:31:11
 mul-edges : tie.Need-mul-edges
 mul-edges c = search needs
 
--- src/lib.rt:31:5
 mul-edges-2 : tie.Need-mul-edges-2
 mul-edges-2 c = search needs
 
--- src/lib.rt:31:5
 slice-write-edges : tie.Need-slice-write-edges
 slice-write-edges c = search needs
 
--- src/lib.rt:32:11
 mul-edges-3 : tie.Need-mul-edges-3
 mul-edges-3 c = search needs
 
--- src/lib.rt:32:11
 add-edges : tie.Need-add-edges
 add-edges c = search needs
 
--- src/lib.rt:32:5
 mul-edges-4 : tie.Need-mul-edges-4
 mul-edges-4 c = search needs
 
--- src/lib.rt:32:5
 slice-write-edges-2 : tie.Need-slice-write-edges-2
 slice-write-edges-2 c = let a = c .args in omega (arith, length-set (a .edges .now) (a .h * 4) (a .origin))
 
--- src/lib.rt:33:11
 mul-edges-5 : tie.Need-mul-edges-5
 mul-edges-5 c = search needs
 
--- src/lib.rt:33:11
 add-edges-2 : tie.Need-add-edges-2
 add-edges-2 c = search needs
 
--- src/lib.rt:33:5
 mul-edges-6 : tie.Need-mul-edges-6
 mul-edges-6 c = search needs
 
--- src/lib.rt:33:5
 slice-write-edges-3 : tie.Need-slice-write-edges-3
 slice-write-edges-3 c =
     let a = c .args in
     omega (arith, length-set (a .edges .now) (a .h * 4) (a .origin), length-set (set (a .edges .now) (a .h * 4) (a .origin)) (a .h * 4 + 1) (a .next))
 
--- src/lib.rt:34:11
 mul-edges-7 : tie.Need-mul-edges-7
 mul-edges-7 c = search needs
 
--- src/lib.rt:34:11
 add-edges-3 : tie.Need-add-edges-3
 add-edges-3 c = search needs
 
--- src/lib.rt:34:5
 mul-edges-8 : tie.Need-mul-edges-8
 mul-edges-8 c = search needs
 
--- src/lib.rt:34:5
 slice-write-edges-4 : tie.Need-slice-write-edges-4
 slice-write-edges-4 c =
     let a = c .args in
     omega (arith, length-set (a .edges .now) (a .h * 4) (a .origin), length-set (set (a .edges .now) (a .h * 4) (a .origin)) (a .h * 4 + 1) (a .next), length-set (set (set (a .edges .now) (a .h * 4) (a .origin)) (a .h * 4 + 1) (a .next)) (a .h * 4 + 2) (a .prev))
 
--- src/lib.rt:20:1
 same-length : tie.Need-same-length
 same-length c = search needs
 
--- src/lib.rt:20:1
 returns : tie.Need-returns
 unfolding rowIn
 returns c = refl

@@ -1,3 +1,4 @@
+-- `rewire::put_vertex` meets its contract: four numbers are stored, one after the other. Assumes nothing.
 use mathlib.Core.Path.{_≡_}
 use Prim.Native.Nat.{_+_, _*_, _<_}
 use native.Mathlib.Omega.{arith}
@@ -11,87 +12,67 @@ use Rattle.rewire.specs.Tables.{rowIn}
 use borrow.Author.Needs.{needs}
 use Rattle.rewire.proofs.put_vertex.Statement.{statement}
 use Rattle.rewire.proofs.put_vertex.Tie as tie
-use Rattle.rewire.proofs.put_vertex.Reads as reads
-use Rattle.rewire.proofs.put_vertex.Lts as lts
 
--- src/lib.rt:129:14
 mul-x : tie.Need-mul-x
 mul-x c = search needs
 
--- src/lib.rt:129:5
 mul-x-2 : tie.Need-mul-x-2
 mul-x-2 c = search needs
 
--- src/lib.rt:129:5
 slice-set-from-x : tie.Need-slice-set-from-x
 slice-set-from-x c = search needs
 
--- src/lib.rt:130:14
 mul-y : tie.Need-mul-y
 mul-y c = search needs
 
--- src/lib.rt:130:14
 add-y : tie.Need-add-y
 add-y c = search needs
 
--- src/lib.rt:130:5
 mul-y-2 : tie.Need-mul-y-2
 mul-y-2 c = search needs
 
--- src/lib.rt:130:5
 slice-set-from-y : tie.Need-slice-set-from-y
 slice-set-from-y c =
     let s = (c .before .before) in
     let l : s .args .v * 4 + 1 < length (s .args .vertices .now) = omega arith in
     lt-length-set (s .args .vertices .now) (s .args .v * 4) (toZ w64 (ofZ w64 (s .args .q .x))) l
 
--- src/lib.rt:131:14
 mul-value : tie.Need-mul-value
 mul-value c = search needs
 
--- src/lib.rt:131:14
 add-value : tie.Need-add-value
 add-value c = search needs
 
--- src/lib.rt:131:5
 mul-value-2 : tie.Need-mul-value-2
 mul-value-2 c = search needs
 
--- src/lib.rt:131:5
 slice-set-from-value : tie.Need-slice-set-from-value
 slice-set-from-value c =
     let s = (c .before .before) in
     let l : s .args .v * 4 + 2 < length (s .args .vertices .now) = omega arith in
     lt-length-set (set (s .args .vertices .now) (s .args .v * 4) (toZ w64 (ofZ w64 (s .args .q .x)))) (s .args .v * 4 + 1) (toZ w64 (ofZ w64 (s .args .q .y))) (lt-length-set (s .args .vertices .now) (s .args .v * 4) (toZ w64 (ofZ w64 (s .args .q .x))) l)
 
--- src/lib.rt:132:27
 cast-vertices : tie.Need-cast-vertices
 cast-vertices c = search needs
 
--- src/lib.rt:132:14
 mul-t8 : tie.Need-mul-t8
 mul-t8 c = search needs
 
--- src/lib.rt:132:14
 add-t9 : tie.Need-add-t9
 add-t9 c = search needs
 
--- src/lib.rt:132:5
 mul-t11 : tie.Need-mul-t11
 mul-t11 c = search needs
 
--- src/lib.rt:132:5
 slice-set-from-vertices : tie.Need-slice-set-from-vertices
 slice-set-from-vertices c =
     let s = (c .before .before) in
     let l : s .args .v * 4 + 3 < length (s .args .vertices .now) = omega arith in
     lt-length-set (set (set (s .args .vertices .now) (s .args .v * 4) (toZ w64 (ofZ w64 (s .args .q .x)))) (s .args .v * 4 + 1) (toZ w64 (ofZ w64 (s .args .q .y)))) (s .args .v * 4 + 2) (toZ w64 (ofZ w64 (s .args .value))) (lt-length-set (set (s .args .vertices .now) (s .args .v * 4) (toZ w64 (ofZ w64 (s .args .q .x)))) (s .args .v * 4 + 1) (toZ w64 (ofZ w64 (s .args .q .y))) (lt-length-set (s .args .vertices .now) (s .args .v * 4) (toZ w64 (ofZ w64 (s .args .q .x))) l))
 
--- src/lib.rt:123:1
 same-length : tie.Need-same-length
 same-length c = search needs
 
--- src/lib.rt:123:1
 returns : tie.Need-returns
 unfolding rowIn
 returns c =

