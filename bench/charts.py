@@ -28,6 +28,7 @@ def main():
     rnd = random.Random(7)
     ring = sorted((11 * x, 11 * y) for x, y in lattice_circle(801125))[:128]
     sets = [('small', uniform(rnd, 12)), ('median', uniform(rnd, 50)), ('largest', inside(rnd, 128)), ('ring', ring)]
+    sets += [('largest127', inside(rnd, 127)), ('ring127', ring[:127])]  # with room for one more
     open(os.path.join(d, 'triangle.txt'), 'w').write(TRIANGLE)
     for name, P in sets:
         t = chart_of(P, delaunay(P, rnd), [rnd.randint(0, 1000000) for _ in P], rnd).text()

@@ -1,6 +1,8 @@
-//! The same calls over the Rust bodies of Spade: the chart check, and a batch.
+//! The same calls over the Rust bodies of Spade: the chart check, a batch, and a new bench test.
 use crate::chart::{self, Tables};
-use spade::{oracle_loader, DelaunayTriangulation, FloatTriangulation, HasPosition, LastUsedVertexHintGenerator, Point2, Triangulation};
+use spade::delaunay_core::Dcel;
+use spade::oracle_loader::{self, Site};
+use spade::{DelaunayTriangulation, FloatTriangulation, HasPosition, LastUsedVertexHintGenerator, Point2, PositionInTriangulation, Triangulation};
 
 struct Test {
     position: Point2<f64>,
@@ -14,13 +16,42 @@ impl HasPosition for Test {
     }
 }
 
-fn triangulation(t: &Tables) -> DelaunayTriangulation<Test> {
+fn dcel(t: &Tables) -> Dcel<Test> {
     let vertices = t.vertices.iter().map(|v| {
         let position = Point2::new(v[0] as f64, v[1] as f64);
         (Test { position, value: v[2] as f64 }, v[3] as usize)
     });
-    let dcel = oracle_loader::dcel_of_tables(vertices.collect(), &t.half, &t.faces);
-    DelaunayTriangulation::from_parts(dcel, LastUsedVertexHintGenerator::default(), 0)
+    oracle_loader::dcel_of_tables(vertices.collect(), &t.half, &t.faces)
+}
+
+fn triangulation(t: &Tables) -> DelaunayTriangulation<Test> {
+    DelaunayTriangulation::from_parts(dcel(t), LastUsedVertexHintGenerator::default(), 0)
+}
+
+/// A new vertex by Spade's operations: the edges to be flipped on a stack, or (`scan`) in the port's order, so that the texts can be compared.
+pub fn insert(text: &[u8], (x, y): (i64, i64), value: i64, scan: bool, lent: &mut [u8]) -> Result<usize, u64> {
+    let mut t = chart::read(text)?;
+    if x.unsigned_abs().max(y.unsigned_abs()) > 10_000 || !(0..=1_000_000).contains(&value) {
+        return Err(13);
+    }
+    if t.vertices.len() == 128 {
+        return Err(25);
+    }
+    let position = Point2::new(x as f64, y as f64);
+    let tri = triangulation(&t);
+    let site = match tri.locate(position) {
+        PositionInTriangulation::OnFace(f) => Site::Face(f.index()),
+        PositionInTriangulation::OnEdge(e) if !tri.directed_edge(e).is_part_of_convex_hull() => Site::Edge(e.index()),
+        _ => return Err(26),
+    };
+    let mut dcel = tri.into_parts().0;
+    oracle_loader::insert_vertex(&mut dcel, Test { position, value: value as f64 }, site, !scan);
+    let (outs, half, faces) = oracle_loader::tables_of_dcel(&dcel);
+    t.vertices.push([x, y, value, 0]);
+    let vertices: Vec<i64> = t.vertices.iter().zip(outs).flat_map(|(v, out)| [v[0], v[1], v[2], out as i64]).collect();
+    let half: Vec<i64> = half.iter().flatten().map(|&n| n as i64).collect();
+    let faces: Vec<i64> = faces.iter().map(|&n| n as i64).collect();
+    chart::put(&vertices, &half, &faces, lent)
 }
 
 const FULL: u64 = 1_000_000_000_000;

@@ -130,6 +130,12 @@ pub fn write(v: &[i64], h: &[i64], f: &[i64], lent: &mut [u8]) -> Result<usize, 
     }
     let rows = |t: &[i64]| t.chunks_exact(4).map(|r| [r[0], r[1], r[2], r[3]]).collect::<Vec<_>>();
     check(rows(v), &rows(h), f)?;
+    put(v, h, f, lent)
+}
+
+/// The same of tables that are known to pass: the text's length, or 18.
+pub fn put(v: &[i64], h: &[i64], f: &[i64], lent: &mut [u8]) -> Result<usize, u64> {
+    let (nv, nh, nf) = (v.len() / 4, h.len() / 4, f.len());
     let length = 25 + 33 * nv + 33 * nh + 9 * nf;
     if lent.len() < length {
         return Err(18);

@@ -9,17 +9,19 @@ mod port;
 type Book = [u64; 34];
 const ENTRIES: usize = 512;
 const SECTIONS: u64 = 16;
+const TESTS: usize = 16;
 
 /// What is timed on a chart.
 #[derive(Clone, Copy)]
 enum Work {
     Check,
     Write,
+    Insert,
     Method(i64),
     Mixed,
 }
-const WORKS: [(&str, Work); 6] =
-    [("check", Work::Check), ("write", Work::Write), ("method 1", Work::Method(1)), ("method 2", Work::Method(2)), ("method 3", Work::Method(3)), ("mixed", Work::Mixed)];
+const WORKS: [(&str, Work); 7] =
+    [("check", Work::Check), ("write", Work::Write), ("insert", Work::Insert), ("method 1", Work::Method(1)), ("method 2", Work::Method(2)), ("method 3", Work::Method(3)), ("mixed", Work::Mixed)];
 
 /// Numbers that are the same in each run.
 struct Numbers(u64);
@@ -89,17 +91,18 @@ impl Numbered {
     }
 }
 
-/// What a call is lent to write: a batch its answers; the writer its text, and the text's length as the first answer.
+/// What a call is lent to write: a batch its answers; the writer and a new bench test their text, and the text's length as the first answer.
 #[derive(Clone, PartialEq)]
 struct Lent {
     answers: Vec<u64>,
     text: Vec<u8>,
 }
 
-/// One call of the port or of the Rust: its refusal, and for a batch the book after it.
+/// One call of the port or of the Rust, or one for each new bench test: its refusal, and for a batch the book after it.
 struct Case<'a> {
     text: &'a [u8],
     tables: &'a Numbered,
+    tests: &'a [(i64, i64)],
     entries: Vec<i64>,
     work: Work,
 }
@@ -110,11 +113,12 @@ impl Case<'_> {
         let n = match self.work {
             Work::Check => port::check(self.text),
             Work::Write => port::write(&t.vertices, &t.half, &t.faces, &mut lent.text, &mut lent.answers[..1]),
+            Work::Insert => self.tests.iter().map(|&q| port::insert(self.text, q, 7, &mut lent.text, &mut lent.answers[..1])).max().unwrap_or(0),
             _ => port::batch(&mut book, self.text, &self.entries, &mut lent.answers),
         };
         (n, book)
     }
-    fn rust(&self, lent: &mut Lent) -> (u64, Book) {
+    fn rust(&self, lent: &mut Lent, scan: bool) -> (u64, Book) {
         let mut book = fresh();
         let t = self.tables;
         let n = match self.work {
@@ -126,6 +130,12 @@ impl Case<'_> {
                 }
                 Err(n) => n,
             },
+            Work::Insert => {
+                for &q in self.tests {
+                    lent.answers[0] = account::insert(self.text, q, 7, scan, &mut lent.text).unwrap() as u64;
+                }
+                0
+            }
             _ => account::batch(&mut book, self.text, &self.entries, &mut lent.answers),
         };
         (n, book)
@@ -158,9 +168,10 @@ fn median(mut v: Vec<f64>) -> f64 {
 }
 
 fn run(name: &str, case: &Case, work: &str, rounds: usize, slice_ns: f64) {
-    let mut a = Lent { answers: vec![0; ENTRIES], text: vec![0; case.text.len()] };
+    let more = if let Work::Insert = case.work { 249 } else { 0 };
+    let mut a = Lent { answers: vec![0; ENTRIES], text: vec![0; case.text.len() + more] };
     let mut b = a.clone();
-    assert_eq!(case.port(&mut a), case.rust(&mut b), "{name}, {work}: refusal or book");
+    assert_eq!(case.port(&mut a), case.rust(&mut b, true), "{name}, {work}: refusal or book");
     assert!(a == b, "{name}, {work}: answers");
     if let Work::Write = case.work {
         assert!(a.text == case.text && a.answers[0] == case.text.len() as u64, "{name}, {work}: the file");
@@ -169,7 +180,7 @@ fn run(name: &str, case: &Case, work: &str, rounds: usize, slice_ns: f64) {
         black_box(case.port(black_box(a)));
     };
     let rust = |b: &mut Lent| {
-        black_box(case.rust(black_box(b)));
+        black_box(case.rust(black_box(b), false));
     };
     let calls = |ns: f64| (slice_ns / ns).ceil().max(1.0) as usize;
     let (np, nr) = (calls(time(3, || port(&mut a))), calls(time(3, || rust(&mut b))));
@@ -178,9 +189,10 @@ fn run(name: &str, case: &Case, work: &str, rounds: usize, slice_ns: f64) {
         p.push(time(np, || port(&mut a)));
         r.push(time(nr, || rust(&mut b)));
     }
-    let (p, r) = (median(p), median(r));
-    let each = if let Work::Check | Work::Write = case.work { String::new() } else { format!("{:>9.0}{:>9.0}", p / ENTRIES as f64, r / ENTRIES as f64) };
-    println!("{name:<10}{work:<10}{:>11.2}{:>11.2}{:>8.2}{each}", p / 1000.0, r / 1000.0, p / r);
+    let share = if let Work::Insert = case.work { case.tests.len() as f64 } else { 1.0 };
+    let (p, r) = (median(p) / share, median(r) / share);
+    let each = if let Work::Check | Work::Write | Work::Insert = case.work { String::new() } else { format!("{:>9.0}{:>9.0}", p / ENTRIES as f64, r / ENTRIES as f64) };
+    println!("{name:<12}{work:<10}{:>11.2}{:>11.2}{:>8.2}{each}", p / 1000.0, r / 1000.0, p / r);
 }
 
 fn main() {
@@ -189,15 +201,18 @@ fn main() {
     let only = std::env::var("ONLY").ok();
     paths.retain(|a| a != "--quick");
     let (rounds, slice_ns) = if quick { (1, 1e6) } else { (15, 20e6) };
-    println!("{:<10}{:<10}{:>11}{:>11}{:>8}{:>9}{:>9}", "chart", "work", "port us", "Rust us", "ratio", "port ns", "Rust ns");
+    println!("{:<12}{:<10}{:>11}{:>11}{:>8}{:>9}{:>9}", "chart", "work", "port us", "Rust us", "ratio", "port ns", "Rust ns");
     for path in &paths {
         let text = std::fs::read(path).expect("a chart");
         let t = chart::read(&text).ok().expect("an accepted chart");
         let name = std::path::Path::new(path).file_stem().unwrap().to_str().unwrap();
         let at = loads(&t, &mut Numbers(7));
         let tables = Numbered::of(&t);
+        // those that can be put in; of a full chart none can
+        let mut room = vec![0; text.len() + 249];
+        let tests: Vec<_> = at.iter().copied().filter(|&q| account::insert(&text, q, 7, false, &mut room).is_ok()).take(TESTS).collect();
         for (label, work) in WORKS {
-            if only.as_ref().is_some_and(|o| o != label) {
+            if only.as_ref().is_some_and(|o| o != label) || tests.is_empty() && matches!(work, Work::Insert) {
                 continue;
             }
             let method = |i: usize| match work {
@@ -205,7 +220,7 @@ fn main() {
                 _ => 1 + i as i64 % 3,
             };
             let entries = at.iter().enumerate().flat_map(|(i, &(x, y))| [1, (i as u64 % SECTIONS) as i64, x, y, method(i)]).collect();
-            run(name, &Case { text: &text, tables: &tables, entries, work }, label, rounds, slice_ns);
+            run(name, &Case { text: &text, tables: &tables, tests: &tests, entries, work }, label, rounds, slice_ns);
         }
     }
 }

@@ -23,6 +23,17 @@ extern "C" {
         found: *mut u64,
         found_len: usize,
     ) -> u64;
+    fn estivolh_insert(
+        chart: *const u8,
+        chart_len: usize,
+        x: i64,
+        y: i64,
+        value: i64,
+        text: *mut u8,
+        text_len: usize,
+        found: *mut u64,
+        found_len: usize,
+    ) -> u64;
 }
 
 pub fn check(chart: &[u8]) -> u64 {
@@ -59,4 +70,8 @@ pub fn write(vertices: &[i64], half: &[i64], faces: &[i64], text: &mut [u8], fou
             found.len(),
         )
     }
+}
+
+pub fn insert(chart: &[u8], (x, y): (i64, i64), value: i64, text: &mut [u8], found: &mut [u64]) -> u64 {
+    unsafe { estivolh_insert(chart.as_ptr(), chart.len(), x, y, value, text.as_mut_ptr(), text.len(), found.as_mut_ptr(), found.len()) }
 }

@@ -1,11 +1,12 @@
 -- The exported calls on triangle A: the numbers that include/estivolh.h names (kinds, counts, the book's 34), with 01's and the Rust's answers, as computed rows
 -- about the calls' definitions. Assumes nothing.
-use mathlib.Core.Path.{_≡_, refl}
+use mathlib.Core.Path.{_≡_, refl, ap, _∙_}
 use mathlib.Core.List.{List, [], _∷_, _++_, map}
 use Prim.Native.Nat.{ℕ}
+use native.Mathlib.Omega.{arith}
 use lib.IntN.{ℤ, pos, negsuc}
 use lib.Ieee.{Float, binary64, add, sub, mul, div, le, lt, eq, ne, neg, ofBits, ofInt}
-use lib.ListN.{replicate}
+use lib.ListN.{getD, replicate}
 use Rattle.whole.specs.First.{from}
 use Rattle.text.specs.Bytes.{eqs}
 use Rattle.text.specs.Field.{spacesOf, digitsOf, columns, lastDigit, fieldText, valueOf, candidate, fieldOf}
@@ -17,8 +18,9 @@ use Rattle.links.specs.Links.{linked, linksBroken}
 use Rattle.checks.specs.Checks.{chartRefusal, tablesRefusal}
 use Rattle.reading.specs.Reading.{countsOf, headOf, bodyOf, loadOf, chartIn}
 use Rattle.reading.specs.Text.{chartText}
-use Rattle.writing.specs.Writing.{numbersRefusal, writeRefusal, writeOf}
-use Rattle.writing.specs.Writing.Written.{wrote}
+use Rattle.writing.specs.Writing.{Saved, numbersRefusal, writeRefusal, writeOf}
+use Rattle.writing.specs.Writing.Written.{wrote, turnedDown}
+use Rattle.sites.specs.Insertion.{vertexRefusal, insertRefusal}
 use Rattle.locate.specs.Location.{locationOf}
 use Rattle.faceset.specs.Set as S
 use Rattle.flips.specs.Search.{inCircle, shouldFlip, inspect, inspectAll}
@@ -41,7 +43,7 @@ use Rattle.triangle.specs.TriangleA.{fileA, verticesA, edgesA, facesA}
 use Rattle.slices.specs.Lent.{Left}
 use Rattle.slices.specs.Answers.{WeightsLeft, lengthLeft}
 use Rattle.estivolh_c.specs.Queries.{locateCalled, barycentricCalled, EdgesLeft, edgesCalled, sharesCalled, gradientCalled, interpolateCalled}
-use Rattle.estivolh_c.specs.Writing.{TextLeft, writeCalled}
+use Rattle.estivolh_c.specs.Writing.{TextLeft, textTold, writeCalled, InsertCalled}
 use Rattle.estivolh_c.specs.Account.{chargeCalled, freshCalled, BatchLeft, batchCalled}
 
 -- what a call returns and leaves
@@ -83,6 +85,12 @@ numbers w₀ w₁ c₀ c₁ retired = 2 ∷ w₀ ∷ w₁ ∷ replicate 14 0 ++ 
 -- a bend of section 0 at (2, 0) by method 1, which costs 120
 abbrev bend : List ℤ
 bend = pos 1 ∷ pos 0 ∷ pos 2 ∷ pos 0 ∷ pos 1 ∷ []
+
+abbrev refusedWith : ℕ → List ℕ → Saved
+refusedWith n s = record { answer = turnedDown n; buffer = s }
+
+not-zero : _≡_ {A = ℕ} 26 0 → ⊥
+not-zero e = omega arith
 
 pub record Rows : Type 0 where
   -- `estivolh_locate`: kind and number; kinds are 1 vertex, 2 edge, 3 face, 4 outside (01's "Loads at the rim")
@@ -146,9 +154,15 @@ pub record Rows : Type 0 where
   -- no room for the length, before all else; of tables that nothing else meets, nothing is written either
   pub text-unfound : writeCalled verticesA edgesN [] (nines 342) [] ≡ textIs 2 (nines 342) []
   pub text-unfound-alone : writeCalled verticesA edgesN facesN (nines 342) [] ≡ textIs 2 (nines 342) []
+  -- a new bench test: on the rim, and with no room for the length, before all else; neither writes
+  pub insert-refused : InsertCalled fileA (pos 5) (pos 0) (pos 150) (nines 600) (nines 2) (textIs 26 (nines 600) (nines 2))
+  pub insert-unfound : InsertCalled fileA (pos 5) (pos 0) (pos 150) (nines 600) [] (textIs 2 (nines 600) [])
+  -- no other number, and no byte written
+  pub insert-other : InsertCalled fileA (pos 5) (pos 0) (pos 150) (nines 3) (nines 1) (textIs 14 (nines 3) (nines 1)) → ⊥
+  pub insert-written : InsertCalled fileA (pos 5) (pos 0) (pos 150) (nines 3) (nines 1) (textIs 26 (nines 2 ++ (8 ∷ [])) (nines 1)) → ⊥
 
 pub rows : Rows
-unfolding fileA verticesA edgesA facesA from eqs spacesOf digitsOf columns lastDigit fieldText valueOf candidate fieldOf lineOf tableOf lineText tableText offGrid crossOf dotOf norm2Of side lifted circle onOpenSegment countsRefused notBelow badVertex badHalfEdge badFace outOfRange linked linksBroken chartRefusal tablesRefusal countsOf headOf bodyOf loadOf chartIn chartText numbersRefusal writeRefusal writeOf locationOf S.none S.add S.countBelow inCircle shouldFlip inspect inspectAll finished faceNeighbors innerEdgeNeighbors edgeNeighbors neighborsOf circumcenterOf twoPointInterpolation barycentricInterpolation weighTwo weighThree cellCorner faceCenter turnFrom sharesFrom sharesOf settled normalOf addNormal gradientFrom turn overPairs sumFrom locatedValue valueOn badBook entryRuling locateOn barycentricOn edgesOn sharesOn gradientOn add sub mul div le lt eq ne neg ofBits ofInt
+unfolding vertexRefusal insertRefusal fileA verticesA edgesA facesA from eqs spacesOf digitsOf columns lastDigit fieldText valueOf candidate fieldOf lineOf tableOf lineText tableText offGrid crossOf dotOf norm2Of side lifted circle onOpenSegment countsRefused notBelow badVertex badHalfEdge badFace outOfRange linked linksBroken chartRefusal tablesRefusal countsOf headOf bodyOf loadOf chartIn chartText numbersRefusal writeRefusal writeOf locationOf S.none S.add S.countBelow inCircle shouldFlip inspect inspectAll finished faceNeighbors innerEdgeNeighbors edgeNeighbors neighborsOf circumcenterOf twoPointInterpolation barycentricInterpolation weighTwo weighThree cellCorner faceCenter turnFrom sharesFrom sharesOf settled normalOf addNormal gradientFrom turn overPairs sumFrom locatedValue valueOn badBook entryRuling locateOn barycentricOn edgesOn sharesOn gradientOn add sub mul div le lt eq ne neg ofBits ofInt
 rows =
     record {
       vertex = refl;
@@ -194,4 +208,8 @@ rows =
       text-refused = refl;
       text-unfound = refl;
       text-unfound-alone = refl;
+      insert-refused = record { done = refusedWith 26 (nines 600); inserts = λ l. record { text = []; inserted = λ e. absurd (not-zero e); left = refl }; told = refl };
+      insert-unfound = record { done = refusedWith 0 []; inserts = λ l. absurd (omega arith); told = refl };
+      insert-other = λ i. let e : _≡_ {A = ℕ} 14 26 = ap (λ (t : TextLeft). t .answer) (i .told) ∙ ap (λ (s : Saved). textTold s (nines 1) .answer) (i .inserts (omega arith) .left) in omega arith;
+      insert-written = λ i. let e : _≡_ {A = ℕ} 8 9 = ap (λ (t : TextLeft). getD (t .text) 2 0) (i .told) ∙ ap (λ (s : Saved). getD (s .buffer) 2 0) (i .inserts (omega arith) .left) in omega arith;
     }

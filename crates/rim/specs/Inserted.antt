@@ -1,12 +1,14 @@
 -- 02, CR 13: which new bench tests are refused, and what the new chart is to the old one: on triangle A, on the square, and on charts of 127 and 128 vertices.
 -- The tables of triangle A with a test at (2,3) are those that the sources' own `insert_into_triangle` leaves. Each row is computed. Assumes nothing.
 use mathlib.Core.Path.{_≡_, refl, sym, subst, ap, _∙_}
-use mathlib.Core.List.{List, [], _∷_, map}
-use Prim.Native.Nat.{ℕ, zero, suc, _+_, _/_, _<_}
+use mathlib.Core.Bool.{true}
+use mathlib.Core.List.{List, [], _∷_, _++_, map}
+use Prim.Native.Nat.{ℕ, zero, suc, _+_, _/_, _≤_, _<_}
 use native.Mathlib.Omega.{arith}
 use lib.Dec.{lit<}
 use lib.IntN.{ℤ, pos, negsuc}
-use lib.ListN.{length, set}
+use lib.ListN.{length, drop, set, replicate, length-replicate}
+use borrow.Author.Tests.{lt-ltb, le-ltb}
 use Rattle.whole.specs.Bools.{never}
 use Rattle.whole.specs.First.{from}
 use Rattle.text.specs.Bytes.{eqs}
@@ -22,18 +24,28 @@ use Rattle.checks.specs.Checks.{chartRefusal, tablesRefusal}
 use Rattle.checks.specs.Checks.Loaded.{loaded}
 use Rattle.reading.specs.Reading.{countsOf, headOf, fileLength, bodyOf, loadOf, chartIn}
 use Rattle.reading.specs.Text.{chartText}
+use Rattle.locate.specs.declared.Location.the-variants.{OnEdge}
 use Rattle.locate.specs.Location.{locationOf}
 use Rattle.patches.specs.Rows.{hitOf, faceHit}
 use Rattle.patches.specs.Flip.{flipped}
 use Rattle.patches.specs.Insert.{inserted}
-use Rattle.sites.specs.Insertion.{vertexRefusal, insertRefusal, Extended}
-use Rattle.inserting.specs.Inserting.{Inserted}
+use Rattle.writing.specs.Writing.{Written, Saved, roomRefusal, savedBy}
+use Rattle.writing.specs.Writing.Written.{wrote, turnedDown}
+use Rattle.sites.specs.Insertion.{noSite, vertexRefusal, insertRefusal, Extended}
+use Rattle.inserting.specs.Inserting.{Inserted, Inserts}
 use Rattle.inserting.specs.Laws.{same-chart}
 use Rattle.triangle.specs.TriangleA.{fileA, verticesA, edgesA, facesA}
 use Rattle.rim.specs.Square.{byte, put, figures, square}
 
 abbrev place : ℕ → ℕ → Place
 place x y = record { x = pos x; y = pos y }
+
+-- what a call says and leaves, and so many bytes to write over
+abbrev saved : Written → List ℕ → Saved
+saved a s = record { answer = a; buffer = s }
+
+abbrev sevens : ℕ → List ℕ
+sevens n = replicate n 7
 
 -- a test on triangle A, on its file with a damage that 9 meets, and on the square
 abbrev onA : Place → ℤ → ℕ
@@ -125,6 +137,9 @@ pub record Rows : Type 0 where
   pub hull-edge-2 : onA (place 5 5) (pos 150) ≡ 26
   pub step-inside : onA (place 5 4) (pos 150) ≡ 0
   pub step-outside : onA (place 6 5) (pos 150) ≡ 26
+  -- an edge of the rim, whichever half-edge is named
+  pub rim-inner-half : noSite A (OnEdge 0) ≡ true
+  pub rim-outer-half : noSite A (OnEdge 1) ≡ true
   -- on the square's inner edge, on its hull edge, at a corner
   pub inner-edge : onSquare (place 5 5) (pos 150) ≡ 0
   pub square-side : onSquare (place 10 5) (pos 150) ≡ 26
@@ -137,6 +152,14 @@ pub record Rows : Type 0 where
   -- one vertex, six half-edges and two faces more: 589 bytes
   pub long : length fileN ≡ 589
   pub new : Inserted (chartIn fileA) (place 2 3) (pos 150) fileN
+  -- the text in exactly as many bytes; two more are as they were; "a new buffer that is too short gets 18, here checked last of all"
+  pub exact : Inserts (chartIn fileA) (place 2 3) (pos 150) (sevens 589) (saved (wrote 589) fileN)
+  pub past : Inserts (chartIn fileA) (place 2 3) (pos 150) (sevens 591) (saved (wrote 589) (fileN ++ sevens 2))
+  pub short : Inserts (chartIn fileA) (place 2 3) (pos 150) (sevens 588) (saved (turnedDown 18) (sevens 588))
+  pub before-room : Inserts (chartIn fileA) (place 2 3) (pos 1000001) [] (saved (turnedDown 13) [])
+  -- whatever the text is, no call is accepted with less room, nor refused with more
+  pub no-less : (t : List ℕ) → Inserts (chartIn fileA) (place 2 3) (pos 150) (sevens 588) (saved (wrote 589) t) → ⊥
+  pub no-more : (t : List ℕ) → Inserts (chartIn fileA) (place 2 3) (pos 150) (sevens 589) (saved (turnedDown 18) t) → ⊥
   -- "its links beyond that are free": vertex 0 with another out half-edge
   pub links-free : Extended A (place 2 3) (pos 150) (with (set verticesN 3 (pos 10)))
   -- no other value, and no other place, of the new vertex or of an old one, whichever
@@ -176,6 +199,19 @@ extended vs n a b c d e f p z =
       place-last = p;
       value-last = z;
     }
+
+-- what the writer leaves of any text, by the room
+room-short : (t : List ℕ) (n : ℕ) → n < length t → savedBy (roomRefusal 0 t (sevens n)) t (sevens n) ≡ saved (turnedDown 18) (sevens n)
+room-short t n l = rw (length-replicate {A = ℕ} n 7, lt-ltb n (length t) l)
+
+room-enough : (t : List ℕ) (n : ℕ) → length t ≤ n → savedBy (roomRefusal 0 t (sevens n)) t (sevens n) ≡ saved (wrote (length t)) (t ++ drop (length t) (sevens n))
+room-enough t n l = rw (length-replicate {A = ℕ} n 7, le-ltb n (length t) l)
+
+wrote-not : (n : ℕ) → wrote n ≡ turnedDown 18 → ⊥
+wrote-not n e = never (cc)
+
+not-wrote : (n : ℕ) → turnedDown 18 ≡ wrote n → ⊥
+not-wrote n e = never (cc)
 
 new-extended : Extended A (place 2 3) (pos 150) (with verticesN)
 unfolding verticesA edgesA facesA
@@ -219,8 +255,16 @@ rows =
       bounds-first = refl;
       full = refl;
       not-full = refl;
+      rim-inner-half = refl;
+      rim-outer-half = refl;
       long = refl;
       new = new-inserted;
+      exact = record { text = fileN; inserted = λ e. new-inserted; left = refl };
+      past = record { text = fileN; inserted = λ e. new-inserted; left = refl };
+      short = record { text = fileN; inserted = λ e. new-inserted; left = refl };
+      before-room = record { text = []; inserted = λ e. absurd (let o : _≡_ {A = ℕ} 13 0 = e in omega arith); left = refl };
+      no-less = λ t i. wrote-not 589 (ap (λ (d : Saved). d .answer) (i .left ∙ room-short (i .text) 588 (let l : length (i .text) ≡ 589 = i .inserted refl .long verticesA edgesA facesA refl in omega arith)));
+      no-more = λ t i. not-wrote (length (i .text)) (ap (λ (d : Saved). d .answer) (i .left ∙ room-enough (i .text) 589 (let l : length (i .text) ≡ 589 = i .inserted refl .long verticesA edgesA facesA refl in omega arith)));
       links-free = extended (set verticesN 3 (pos 10)) refl refl refl refl refl refl refl refl refl;
       other-value = λ x. let k : _≡_ {A = ℤ} (pos 150) (pos 151) = x .value-last in let o : _≡_ {A = ℕ} 150 151 = same 150 151 k in omega arith;
       other-place = λ x. let k : _≡_ {A = ℤ} (pos 3) (pos 4) = ap (λ (p : Place). p .y) (x .place-last) in let o : _≡_ {A = ℕ} 3 4 = same 3 4 k in omega arith;
