@@ -1,4 +1,4 @@
--- Euler's inequality (X): a chart of n vertices that refusals 6 to 10 do not meet has at most 6n - 12 half-edges and 2n - 4 faces. Every half-edge gets a number of its own
+-- Euler's inequality: a chart of n vertices that refusals 6 to 10 do not meet has at most 6n - 12 half-edges and 2n - 4 faces. Every half-edge gets a number of its own
 -- below 6n, and twelve numbers are left. Assumes nothing.
 use mathlib.Core.Path.{_≡_, refl, sym, subst, ap, _∙_}
 use mathlib.Core.Logic.{_⊎_, inl, inr}
@@ -112,7 +112,7 @@ two zero h = inl refl
 two (suc zero) h = inr refl
 two (suc (suc n)) h = absurd (omega arith)
 
--- ---- X3: a ray from m into the triangle m x y is right of a side from m that x and y are right of or on
+-- ---- a ray from m into the triangle m x y is right of a side from m that x and y are right of or on
 wedge : (ρ m x y b : Place) → side m x y *ℤ ray ρ m b +ℤ ray ρ m y *ℤ side m b x +ℤ ray ρ x m *ℤ side m b y ≡ pos 0
 unfolding side crossOf ray agree
 wedge ρ m x y b =
@@ -173,14 +173,14 @@ module _ (c : Chart) (snd : Sound c) where
     right : Neg (ray σ (P (c .origin h)) (P (c .origin (c .next h))))
     left : Pos (ray σ (P (c .origin h)) (P (c .origin (c .prev h))))
 
-  -- X1
+  -- into one face at most from a vertex
   points-one : (σ : Place) → Parted σ → (h g : ℕ) → Points σ h → Points σ g → c .origin h ≡ c .origin g → g ≡ h
   unfolding Parted
   points-one σ d h g p r e =
       one-way c snd h (p .there) (p .inner) σ (λ v w l m n. subst Off (ray-base σ (P (c .origin h)) (P w) (P v)) (d w v m l (λ q. n (sym q)))) (p .right) (p .left) g (r .there) (r .inner) (sym e)
       (subst (λ (v : ℕ). Neg (ray σ (P v) (P (c .origin (c .next g))))) (sym e) (r .right)) (subst (λ (v : ℕ). Pos (ray σ (P v) (P (c .origin (c .prev g))))) (sym e) (r .left))
 
-  -- X3
+  -- an outer half-edge that leaves it goes to the left of the ray
   outer-left : (σ : Place) (h o : ℕ) → Points σ h → o < c .halfEdges → c .face o ≡ 0 → c .origin o ≡ c .origin h → Pos (ray σ (P (c .origin h)) (P (c .origin (c .next o))))
   outer-left σ h o p l f e =
       right-of σ (P (c .origin h)) (P (c .origin (c .next h))) (P (c .origin (c .prev h))) (P (c .origin (c .next o)))
@@ -509,7 +509,7 @@ module _ (c : Chart) (snd : Sound c) where
       by (in₂ f a s) (in₁ f′ a′ s′) q u = absurd (let z : 2 ≡ 1 = sym s ∙ u ∙ s′ in omega arith)
       by (in₂ f a s) (in₂ f′ a′ s′) q u = sym (snd .next-prev h l) ∙ ap (c .next) (mid-mid (c .prev h) (c .prev g) f f′ (cd _ _ _ _ a a′ q)) ∙ snd .next-prev g j
 
-  -- ---- three outer half-edges (X6)
+  -- ---- three outer half-edges
   no-two : (h : ℕ) → h < c .halfEdges → c .next (c .next h) ≡ h → ⊥
   no-two h l e = pick (ℕ-discrete (c .face h) 0)
     where
@@ -652,12 +652,12 @@ module _ (c : Chart) (snd : Sound c) where
       (Extra.cons (under-six (2 * Hi + 1) 2 (let z = Hi-in in omega arith) (omega arith)) (spare-hi 2 (omega arith)) None.nil
       Extra.nil)))))))))))
 
-  -- ---- X: half-edges
+  -- ---- the half-edges, and the numbers left over, are fewer than 6n
   pub half-edges-few : c .halfEdges + 12 ≤ 6 * c .vertices
   unfolding spares
   half-edges-few = fit-extra spares (c .halfEdges) (6 * c .vertices) number number-low one-number extra
 
-  -- ---- X: faces, three half-edges each
+  -- ---- the faces, three half-edges each
   stepped : ℕ → ℕ → ℕ
   stepped zero a = a
   stepped (suc zero) a = c .next a

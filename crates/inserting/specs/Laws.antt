@@ -1,15 +1,14 @@
 -- What the call's arms come to: a refusal before 18, and the text of the new tables. Assumes nothing.
 use mathlib.Core.Path.{_≡_, refl, sym, subst, ap, _∙_}
 use mathlib.Core.List.{List, [], map}
-use Prim.Native.Nat.{ℕ, _+_, _*_, _/_, _≤_, _<_}
+use Prim.Native.Nat.{ℕ, _+_, _*_, _/_, _<_}
 use native.Mathlib.Omega.{arith}
 use lib.IntN.{ℤ, pos}
 use lib.ListN.{length, take, length-map}
 use lib.Seq.{length-take-le, getD-take}
-use Rattle.whole.specs.Bools.{never}
 use Rattle.geometry.specs.declared.Place.{Place}
-use Rattle.chart.specs.Tables.{rows, unsignedAll}
-use Rattle.chart.specs.Chart.{Chart, chartOf}
+use Rattle.chart.specs.Tables.{rows}
+use Rattle.chart.specs.Chart.{chartOf}
 use Rattle.checks.specs.Checks.{Loaded}
 use Rattle.checks.specs.Checks.Loaded.{loaded, refused}
 use Rattle.reading.specs.Reading.{fileLength, loadOf, refusalOf, chartIn}
@@ -24,7 +23,7 @@ use Rattle.rewire.specs.Tables.{Natural, outCell}
 use Rattle.sites.specs.Insertion.{insertRefusal, Extended}
 use Rattle.sites.specs.Joined.{Joined}
 use Rattle.insertion.specs.Extend.{Extends}
-use Rattle.inserting.specs.Inserting.{Inserted, Inserts}
+use Rattle.inserting.specs.Inserting.{Inserts}
 use Rattle.inserting.specs.Numbers.{Small, unsigned-back, edges-small, faces-small, numbers-pass}
 
 -- a chart that was read

@@ -15,7 +15,7 @@ use Rattle.geometry.specs.declared.Place.{Place}
 use Rattle.geometry.specs.Plane.{offGrid, OnGrid}
 use Rattle.chart.specs.Limits.{MostHalfEdges, MostFaces}
 use Rattle.chart.specs.Tables.{unsigned, unsignedAll, rows, placeOf}
-use Rattle.chart.specs.Chart.{Chart, chartOf, InRange}
+use Rattle.chart.specs.Chart.{chartOf, InRange}
 use Rattle.ranges.specs.Ranges.{notBelow, cell, badVertex, badHalfEdge, badFace, outOfRange}
 use Rattle.ranges.specs.Passed.{counts-pass}
 use Rattle.checks.specs.Checks.{chartRefusal, tablesRefusal}

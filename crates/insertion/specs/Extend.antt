@@ -1,20 +1,18 @@
 -- A chart that was read into arrays, and a new vertex put into it there. Assumes nothing.
 use mathlib.Core.Path.{_≡_, refl, sym, subst, ap, _∙_}
-use mathlib.Core.Bool.{Bool, true, false, not, cond, _||_, false≢true}
+use mathlib.Core.Bool.{Bool, true, false, cond, false≢true}
 use mathlib.Core.List.{List, _++_}
 use Prim.Native.Nat.{ℕ, zero, suc, _+_, _*_, _/_, _≤_, _<_}
 use native.Mathlib.Omega.{arith}
-use lib.Dec.{ltb}
 use lib.IntN.{ℤ, pos, negsuc}
 use lib.ListN.{length, take, drop, length-append, List·getD-append}
 use lib.Seq.{length-take-le, take-take, take-at, getD-take}
 use native.Mathlib.Decide.{ℕ-discrete}
-use borrow.Author.Tests.{ltb-true, lt-ltb, le-ltb}
 use Rattle.whole.specs.Bools.{or-false, never}
 use Rattle.whole.specs.Bound.{outside}
 use Rattle.whole.specs.First.{some, none-at}
 use Rattle.geometry.specs.declared.Place.{Place}
-use Rattle.geometry.specs.Plane.{offGrid, on-grid}
+use Rattle.geometry.specs.Plane.{offGrid}
 use Rattle.chart.specs.Limits.{MostVertices, MostHalfEdges, MostFaces}
 use Rattle.chart.specs.Tables.{unsignedAll, rows, placeOf, valueOf}
 use Rattle.chart.specs.Chart.{Chart, chartOf}

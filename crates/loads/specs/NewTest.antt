@@ -6,11 +6,10 @@ use mathlib.Core.Bool.{Bool, true, false, cond, _||_}
 use mathlib.Core.List.{List, _++_}
 use Prim.Native.Nat.{ℕ, zero, suc, _+_, _≤_, _<_}
 use native.Mathlib.Omega.{arith}
-use lib.Dec.{eqb, ltb}
 use lib.IntN.{ℤ}
 use lib.ListN.{length, drop}
 use borrow.Author.Tests.{ne-eqb, le-ltb}
-use Rattle.whole.specs.Bools.{and-true, is-false, never}
+use Rattle.whole.specs.Bools.{and-true, never}
 use Rattle.geometry.specs.declared.Place.{Place}
 use Rattle.chart.specs.Limits.{MostVertices}
 use Rattle.chart.specs.Tables.{rows}
@@ -30,7 +29,7 @@ use Rattle.home.specs.Located.{face-location, edge-location}
 use Rattle.neighbors.specs.Neighbors.{partOfConvexHull}
 use Rattle.neighbourhood.specs.Neighbourhood.{Amid}
 use Rattle.sites.specs.Insertion.{noSite, outOfBounds, vertexRefusal, insertRefusal}
-use Rattle.inserting.specs.Inserting.{Inserted, Inserts, InsertOf}
+use Rattle.inserting.specs.Inserting.{Inserted, InsertOf}
 
 -- the text of a chart with the test stands in front of the buffer, and its length is the answer
 pub record PutIn (s : List ℕ) (q : Place) (z : ℤ) (lent : List ℕ) (done : Saved) : Type 0 where

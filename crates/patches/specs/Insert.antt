@@ -14,7 +14,7 @@ use Rattle.sound.specs.Sound.{Inner}
 use Rattle.patches.specs.declared.Row.{Row}
 use Rattle.patches.specs.Rows.{turn, rowFrom, rowAt, Hit, none, hit, hitOf, faceHit, cases, at-key, at-rest, at-nil, face-rest, face-nil, Missed, missed, face-missed, Distinct, Throughout, throughout, hit-key, hit-next, hit-prev}
 use Rattle.patches.specs.Wired.{Wired, prev-face, partner-below, next-differs, prev-differs, next-prev-differ, prev-end, next-end, same-face}
-use Rattle.patches.specs.Patch.{fromBy, RowIn, Patch, patched, put, grownWith}
+use Rattle.patches.specs.Patch.{fromBy, RowIn, Patch, put, grownWith}
 
 -- the triangles that replace triangle r: vertex n is across each of its half-edges; h and f are the first new half-edge and face
 abbrev pub insertRow₀ : Row → ℕ → ℕ → Row
@@ -272,6 +272,3 @@ module _ (c : Chart) (w : Wired c) (e : ℕ) (ie : Inner c e) (q : Place) (z : �
         outs = λ v l. out-at v l .0;
         out-start = λ v l. out-at v l .1;
       }
-
-  pub insert-wired : Wired (inserted c e q z)
-  insert-wired = patched c (inserted c e q z) (insertRows c e) w insert-patch

@@ -14,7 +14,7 @@ use Rattle.sound.specs.Sound.{Inner}
 use Rattle.patches.specs.declared.Row.{Row}
 use Rattle.patches.specs.Rows.{turn, rowFrom, rowAt, Hit, none, hit, hitOf, faceHit, cases, at-key, at-rest, at-nil, face-rest, face-nil, Missed, missed, face-missed, Distinct, Throughout, throughout, hit-key, hit-next}
 use Rattle.patches.specs.Wired.{Wired, prev-face, partner-below, next-differs, prev-differs, next-prev-differ, prev-end, next-end, same-face, faces-differ}
-use Rattle.patches.specs.Patch.{fromBy, RowIn, Patch, patched, put, grownWith}
+use Rattle.patches.specs.Patch.{fromBy, RowIn, Patch, put, grownWith}
 use Rattle.patches.specs.Insert.{over, at-end, six, two-more}
 
 -- the triangles that replace r and s, on both sides of an edge, about a vertex n on it; h and f are the first new half-edge and face
@@ -351,6 +351,3 @@ module _ (c : Chart) (w : Wired c) (e : ℕ) (ie : Inner c e) (it : Inner c (par
         outs = λ v l. out-at v l .0;
         out-start = λ v l. out-at v l .1;
       }
-
-  pub split-wired : Wired (split c e q z)
-  split-wired = patched c (split c e q z) (splitRows c e t) w split-patch

@@ -8,7 +8,6 @@ use Rattle.whole.specs.Bound.{outside}
 use Rattle.geometry.specs.declared.Place.{Place}
 use Rattle.geometry.specs.Plane.{offGrid}
 use Rattle.chart.specs.Limits.{MostVertices}
-use Rattle.chart.specs.Tables.{rows}
 use Rattle.chart.specs.Chart.{Chart, chartOf}
 use Rattle.ranges.specs.Ranges.{ValueMax}
 use Rattle.checks.specs.Checks.{Loaded}

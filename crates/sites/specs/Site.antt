@@ -2,7 +2,6 @@
 use mathlib.Core.Path.{_≡_, refl, sym, subst, ap, _∙_}
 use mathlib.Core.Bool.{Bool, true, false, cond}
 use Prim.Native.Nat.{ℕ, _<_}
-use lib.IntN.{ℤ}
 use borrow.Author.Tests.{eqb-false}
 use Rattle.whole.specs.Bools.{or-false, and-true, never}
 use Rattle.signs.specs.Signs.{Pos, Neg, Zero}

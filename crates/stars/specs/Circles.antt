@@ -1,4 +1,4 @@
--- Circles through two places: N1 and N2 of the paper, and D1 as the star takes it, over places. Assumes nothing.
+-- Circles through two places: what the circle of a face of the star holds on either side of an edge. Assumes nothing.
 use mathlib.Core.Path.{_≡_, subst, ap, _∙_}
 use mathlib.Core.Logic.{_⊎_, inl, inr}
 use mathlib.Core.List.{[], _∷_}
@@ -22,7 +22,7 @@ circle-corner a b c = solve! (env (a .x ∷ a .y ∷ b .x ∷ b .y ∷ c .x ∷ 
 move : (x y a b : ℤ) → x *ℤ y ≡ a +ℤ b → a +ℤ b +ℤ negℤ x *ℤ y ≡ pos 0
 move x y a b e = ap (λ (u : ℤ). a +ℤ b +ℤ u) (neg-mul x y ∙ ap negℤ e) ∙ +ℤ-invr (a +ℤ b)
 
--- E11 as three products
+-- the pencil of circles through a and b, as three products
 pub pencil0 : (a b c q z : Place) → side a b c *ℤ circle a b q z +ℤ side a b z *ℤ circle a b c q +ℤ side b a q *ℤ circle a b c z ≡ pos 0
 pencil0 a b c q z =
     ap (λ (u : ℤ). side a b c *ℤ circle a b q z +ℤ side a b z *ℤ circle a b c q +ℤ u *ℤ circle a b c z) (back a b q)
@@ -45,7 +45,7 @@ left-prev a b c q d j x = pick (low-or-pos (side c a q))
         absurd (pos-low j (subst Low (circle-turn c a b q) (one-window c a b q (subst Pos (side-turn a b c ∙ side-turn b c a) d) y x)))
     pick (inr y) = y
 
--- ---- N1: the circle through a, b and q on the left
+-- ---- the circle through a, b and q, on the left
 pub on-left : (a b c q z : Place) → Pos (side a b c) → Pos (side a b q) → Pos (circle a b c q) → Low (circle a b c z) → High (side a b z) → Low (circle a b q z)
 unfolding test3 _⊙_ flip
 on-left a b c q z x y j e s =
@@ -53,7 +53,7 @@ on-left a b c q z x y j e s =
     rw (pos-sg x, pos-sg j, neg-sg (neg-pos (back a b q) y)) at (bal-mul3 (side a b c) (circle a b q z) (side a b z) (circle a b c q) (side b a q) (circle a b c z) (pencil0 a b c q z)) in
     record { is = fire (fire (fire (every3 (λ i u v. bal i (u ⊙ above) (flip v) nil ⇒ hi u ⇒ lo v ⇒ lo i) tt (sg (circle a b q z)) (sg (side a b z)) (sg (circle a b c z))) t) (s .is)) (e .is) }
 
--- ---- N2: and on the right
+-- ---- and on the right
 pub on-right : (a b d q z : Place) → Pos (side b a d) → Pos (side a b q) → Low (circle b a d q) → Low (circle b a d z) → Neg (side a b z) → Low (circle a b q z)
 unfolding test3 _⊙_ flip
 on-right a b d q z x y j e s =

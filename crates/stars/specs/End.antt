@@ -1,4 +1,4 @@
--- Where no link edge is to be flipped, no vertex across an edge is strictly inside the circle on the other side (N7). Assumes nothing.
+-- Where no link edge is to be flipped, no vertex across an edge is strictly inside the circle on the other side. Assumes nothing.
 use mathlib.Core.Path.{_≡_, refl, sym, subst, ap, _∙_}
 use mathlib.Core.Logic.{_⊎_, inl, inr}
 use Prim.Native.Nat.{ℕ, _<_}
@@ -53,7 +53,7 @@ module _ (c : Chart) (n : ℕ) (g : Growing c n) (s : Settled c n) where
           (subst (λ (i : ℕ). Low (side (P i) (P (c .origin (partner (partner h)))) (P z))) (t .to) (g .hull (partner h) z (m, e) l))))
       pick (no e) = (m, e)
 
-  -- ---- N7: the circle of a face of the star holds no old vertex
+  -- ---- the circle of a face of the star holds no old vertex
   pub inside : (h x y z : ℕ) → Tri c h x y n → z < n → Low (circle (P x) (P y) q (P z))
   inside h x y z t l = pick (neg-or-high (side (P x) (P y) (P z)))
     where

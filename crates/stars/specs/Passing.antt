@@ -1,6 +1,6 @@
 -- A wired chart in range whose faces turn left, whose rim is convex and in which no vertex across an edge is strictly inside the circle on the other side is
 -- an accepted one. Assumes nothing.
-use mathlib.Core.Path.{_≡_, refl, sym, subst, ap, _∙_}
+use mathlib.Core.Path.{_≡_, refl, sym, _∙_}
 use mathlib.Core.Bool.{Bool, true, false, not, _&&_}
 use Prim.Native.Nat.{ℕ, _*_, _/_, _<_}
 use native.Mathlib.Omega.{arith}

@@ -1,4 +1,4 @@
--- The star of the new vertex n: what holds of a chart while edges are flipped, and that a flip keeps it (N5). Assumes nothing.
+-- The star of the new vertex n: what holds of a chart while edges are flipped, and that a flip keeps it. Assumes nothing.
 use mathlib.Core.Path.{_≡_, refl, sym, subst, ap, _∙_}
 use mathlib.Core.List.{List}
 use Prim.Native.Nat.{ℕ, _+_, _<_}

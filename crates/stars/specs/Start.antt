@@ -1,6 +1,5 @@
 -- The chart with the new vertex joined to the corners around it: what holds while edges are flipped holds at the start. Assumes nothing.
 use mathlib.Core.Path.{_≡_, refl, sym, subst, ap, _∙_}
-use mathlib.Core.Logic.{_⊎_, inl, inr}
 use mathlib.Core.Bool.{Bool, cond}
 use mathlib.Core.List.{List}
 use Prim.Native.Nat.{ℕ, _+_, _<_}
@@ -9,7 +8,7 @@ use native.Mathlib.Decide.{ℕ-discrete}
 use lib.IntN.{ℤ}
 use borrow.Author.Tests.{eq-eqb, ne-eqb}
 use Rattle.signs.specs.Signs.{Pos, Neg, Zero, Low, High}
-use Rattle.signs.specs.Order.{not-pos, neg-nil, neg-low, pos-high, zero-high, low-or-pos}
+use Rattle.signs.specs.Order.{not-pos, neg-nil, neg-low, pos-high, zero-high}
 use Rattle.cells.specs.Points.{dots, back, dot-back}
 use Rattle.cells.specs.Corner.{Apart, open-left}
 use Rattle.cells.specs.Window.{inside-circle}
@@ -73,7 +72,7 @@ module _ (c : Chart) (a : Accepted c) (q : Place) where
   to-in : {h x y v : ℕ} → Tri c h x y v → y < n
   to-in {h} t = from-in (tri-next c w t)
 
-  -- C4: left of two sides and left of or on the third is inside the circle
+  -- left of two sides and left of or on the third is inside the circle
   pub inside : {h x y v : ℕ} → Tri c h x y v → High (side (P x) (P y) q) → Pos (side (P y) (P v) q) → Pos (side (P v) (P x) q) → Pos (circle (P x) (P y) (P v) q)
   inside {h} {x} {y} {v} t i j k = inside-circle (P x) (P y) (P v) q (corners-apart t) i j k
 

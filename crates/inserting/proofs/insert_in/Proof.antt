@@ -10,13 +10,6 @@ use Rattle.inserting.specs.Laws.{refused-inserts, new-pass, small-edges,
 use borrow.Author.Needs.{needs}
 use Rattle.inserting.proofs.insert_in.Statement.{statement}
 use Rattle.inserting.proofs.insert_in.Tie as tie
-use Rattle.inserting.proofs.insert_in.Reads as reads
-use Rattle.inserting.proofs.insert_in.Lts as lts
-use Rattle.chart.proofs.edge_room.Reads as edge-room-reads
-use Rattle.chart.proofs.face_room.Reads as face-room-reads
-use Rattle.chart.proofs.vertex_room.Reads as vertex-room-reads
-use Rattle.inserting.proofs.put_text.Reads as put-text-reads
-use Rattle.insertion.proofs.extend.Reads as extend-reads
 
 vertex-room-requires : tie.Need-vertex-room-requires
 vertex-room-requires c κs = search needs

@@ -11,12 +11,6 @@ use Rattle.inserting.specs.Numbers.{edges-room, faces-room, handed}
 use borrow.Author.Needs.{needs}
 use Rattle.inserting.proofs.put_text.Statement.{statement}
 use Rattle.inserting.proofs.put_text.Tie as tie
-use Rattle.inserting.proofs.put_text.Reads as reads
-use Rattle.inserting.proofs.put_text.Lts as lts
-use Rattle.inserting.proofs.hand_over.Reads as hand-over-reads
-use Rattle.reading.proofs.edge_room.Reads as edge-room-reads
-use Rattle.reading.proofs.face_room.Reads as face-room-reads
-use Rattle.writing.proofs.put_text.Reads as put-text-reads
 
 -- what was handed over is as long as the table
 in-front : (t : List ℕ) (m rest : List ℤ) → m ≡ map pos t → length t ≤ length (m ++ rest)

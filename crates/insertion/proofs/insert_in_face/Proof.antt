@@ -1,5 +1,5 @@
 -- `insertion::insert_in_face` meets its contract: the vertex is joined, then edges are flipped. Assumes nothing.
-use mathlib.Core.Path.{_≡_, ap, _∙_}
+use mathlib.Core.Path.{ap, _∙_}
 use lib.IntN.{ℤ}
 use mir.Facts.{toZ-ofZ}
 use Rattle.chart.specs.Chart.{chartOf}
@@ -16,7 +16,10 @@ insert-into-triangle-requires : tie.Need-insert-into-triangle-requires
 insert-into-triangle-requires c κs = let s = (c .before .before .before .before .before) in (s .pre .0, (sound-wired (s .pre .1 .0 .sound), s .pre .1 .1 .1 .inner))
 
 legalize-requires : tie.Need-legalize-requires
-legalize-requires c κs = let s = (c .before .before .before .before .before .before .before .before .before .before .before .before .before .before) in face-asks (s .args .vertices .now) (s .args .edges .now) (s .args .faces .now) (s .args .n) (s .args .h) (s .args .f) (s .pre .0) (s .pre .1 .0) (s .args .q) (s .args .value) (s .pre .1 .1 .0) (s .args .e) (s .pre .1 .1 .1) (chartOf ((c .before .before .before .before .before .before .before .before .insert-into-triangle) .last .0) ((c .before .before .before .before .before .before .before .before .insert-into-triangle) .last .1 .0) ((c .before .before .before .before .before .before .before .before .insert-into-triangle) .last .1 .1 .0)) ((c .before .before .before .before .before .before .before .before .insert-into-triangle) .ensures .0 ∙ ap (λ (z : ℤ). inserted (oldOf (s .args .vertices .now) (s .args .edges .now) (s .args .faces .now) (s .args .n) (s .args .h) (s .args .f)) (s .args .e) (s .args .q) z) (toZ-ofZ (s .fits .value)))
+legalize-requires c κs =
+    let s = c .before .before .before .before .before .before .before .before .before .before .before .before .before .before in
+    let i = c .before .before .before .before .before .before .before .before .insert-into-triangle in
+    face-asks (s .args .vertices .now) (s .args .edges .now) (s .args .faces .now) (s .args .n) (s .args .h) (s .args .f) (s .pre .0) (s .pre .1 .0) (s .args .q) (s .args .value) (s .pre .1 .1 .0) (s .args .e) (s .pre .1 .1 .1) (chartOf (i .last .0) (i .last .1 .0) (i .last .1 .1 .0)) (i .ensures .0 ∙ ap (λ (z : ℤ). inserted (oldOf (s .args .vertices .now) (s .args .edges .now) (s .args .faces .now) (s .args .n) (s .args .h) (s .args .f)) (s .args .e) (s .args .q) z) (toZ-ofZ (s .fits .value)))
 
 same-length : tie.Need-same-length
 same-length c = search needs
@@ -28,7 +31,11 @@ same-length-3 : tie.Need-same-length-3
 same-length-3 c = search needs
 
 returns : tie.Need-returns
-returns c = let s = (c .before .before .before .before .before .before .before .before .before .before .before .before .before .before .before .before .before .before .before .before) in (face-leaves (s .args .vertices .now) (s .args .edges .now) (s .args .faces .now) (s .args .n) (s .args .h) (s .args .f) (s .pre .0) (s .pre .1 .0) (s .args .q) (s .args .value) (s .pre .1 .1 .0) (s .args .e) (s .pre .1 .1 .1) (chartOf ((c .before .before .before .before .before .before .before .before .before .before .before .before .before .before .insert-into-triangle) .last .0) ((c .before .before .before .before .before .before .before .before .before .before .before .before .before .before .insert-into-triangle) .last .1 .0) ((c .before .before .before .before .before .before .before .before .before .before .before .before .before .before .insert-into-triangle) .last .1 .1 .0)) ((c .before .before .before .before .before .before .before .before .before .before .before .before .before .before .insert-into-triangle) .ensures .0 ∙ ap (λ (z : ℤ). inserted (oldOf (s .args .vertices .now) (s .args .edges .now) (s .args .faces .now) (s .args .n) (s .args .h) (s .args .f)) (s .args .e) (s .args .q) z) (toZ-ofZ (s .fits .value))) (chartOf ((c .before .before .before .before .before .legalize) .last .0) ((c .before .before .before .before .before .legalize) .last .1 .0) ((c .before .before .before .before .before .legalize) .last .1 .1 .0)) ((c .before .before .before .before .before .legalize) .ensures .0), new-then (s .args .n) (s .args .vertices .now) ((c .before .before .before .before .before .before .before .before .before .before .before .before .before .before .insert-into-triangle) .last .0) ((c .before .before .before .before .before .legalize) .last .0) ((c .before .before .before .before .before .before .before .before .before .before .before .before .before .before .insert-into-triangle) .ensures .1) ((c .before .before .before .before .before .legalize) .ensures .1))
+returns c =
+    let s = c .before .before .before .before .before .before .before .before .before .before .before .before .before .before .before .before .before .before .before .before in
+    let i = c .before .before .before .before .before .before .before .before .before .before .before .before .before .before .insert-into-triangle in
+    let l = c .before .before .before .before .before .legalize in
+    (face-leaves (s .args .vertices .now) (s .args .edges .now) (s .args .faces .now) (s .args .n) (s .args .h) (s .args .f) (s .pre .0) (s .pre .1 .0) (s .args .q) (s .args .value) (s .pre .1 .1 .0) (s .args .e) (s .pre .1 .1 .1) (chartOf (i .last .0) (i .last .1 .0) (i .last .1 .1 .0)) (i .ensures .0 ∙ ap (λ (z : ℤ). inserted (oldOf (s .args .vertices .now) (s .args .edges .now) (s .args .faces .now) (s .args .n) (s .args .h) (s .args .f)) (s .args .e) (s .args .q) z) (toZ-ofZ (s .fits .value))) (chartOf (l .last .0) (l .last .1 .0) (l .last .1 .1 .0)) (l .ensures .0), new-then (s .args .n) (s .args .vertices .now) (i .last .0) (l .last .0) (i .ensures .1) (l .ensures .1))
 
 pub insert-in-face-spec : {M : Type 1} → statement M
 insert-in-face-spec =

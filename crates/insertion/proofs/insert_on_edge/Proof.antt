@@ -1,5 +1,5 @@
 -- `insertion::insert_on_edge` meets its contract: the vertex is joined, then edges are flipped. Assumes nothing.
-use mathlib.Core.Path.{_≡_, ap, _∙_}
+use mathlib.Core.Path.{ap, _∙_}
 use lib.IntN.{ℤ}
 use mir.Facts.{toZ-ofZ}
 use Rattle.chart.specs.Chart.{chartOf}
@@ -16,7 +16,10 @@ split-edge-requires : tie.Need-split-edge-requires
 split-edge-requires c κs = let s = (c .before .before .before .before .before) in (s .pre .0, (sound-wired (s .pre .1 .0 .sound), (s .pre .1 .1 .1 .inner, s .pre .1 .1 .1 .beyond)))
 
 legalize-requires : tie.Need-legalize-requires
-legalize-requires c κs = let s = (c .before .before .before .before .before .before .before .before .before .before .before .before .before .before) in edge-asks (s .args .vertices .now) (s .args .edges .now) (s .args .faces .now) (s .args .n) (s .args .h) (s .args .f) (s .pre .0) (s .pre .1 .0) (s .args .q) (s .args .value) (s .pre .1 .1 .0) (s .args .e) (s .pre .1 .1 .1) (chartOf ((c .before .before .before .before .before .before .before .before .split-edge) .last .0) ((c .before .before .before .before .before .before .before .before .split-edge) .last .1 .0) ((c .before .before .before .before .before .before .before .before .split-edge) .last .1 .1 .0)) ((c .before .before .before .before .before .before .before .before .split-edge) .ensures .0 ∙ ap (λ (z : ℤ). split (oldOf (s .args .vertices .now) (s .args .edges .now) (s .args .faces .now) (s .args .n) (s .args .h) (s .args .f)) (s .args .e) (s .args .q) z) (toZ-ofZ (s .fits .value)))
+legalize-requires c κs =
+    let s = c .before .before .before .before .before .before .before .before .before .before .before .before .before .before in
+    let p = c .before .before .before .before .before .before .before .before .split-edge in
+    edge-asks (s .args .vertices .now) (s .args .edges .now) (s .args .faces .now) (s .args .n) (s .args .h) (s .args .f) (s .pre .0) (s .pre .1 .0) (s .args .q) (s .args .value) (s .pre .1 .1 .0) (s .args .e) (s .pre .1 .1 .1) (chartOf (p .last .0) (p .last .1 .0) (p .last .1 .1 .0)) (p .ensures .0 ∙ ap (λ (z : ℤ). split (oldOf (s .args .vertices .now) (s .args .edges .now) (s .args .faces .now) (s .args .n) (s .args .h) (s .args .f)) (s .args .e) (s .args .q) z) (toZ-ofZ (s .fits .value)))
 
 same-length : tie.Need-same-length
 same-length c = search needs
@@ -28,7 +31,11 @@ same-length-3 : tie.Need-same-length-3
 same-length-3 c = search needs
 
 returns : tie.Need-returns
-returns c = let s = (c .before .before .before .before .before .before .before .before .before .before .before .before .before .before .before .before .before .before .before .before) in (edge-leaves (s .args .vertices .now) (s .args .edges .now) (s .args .faces .now) (s .args .n) (s .args .h) (s .args .f) (s .pre .0) (s .pre .1 .0) (s .args .q) (s .args .value) (s .pre .1 .1 .0) (s .args .e) (s .pre .1 .1 .1) (chartOf ((c .before .before .before .before .before .before .before .before .before .before .before .before .before .before .split-edge) .last .0) ((c .before .before .before .before .before .before .before .before .before .before .before .before .before .before .split-edge) .last .1 .0) ((c .before .before .before .before .before .before .before .before .before .before .before .before .before .before .split-edge) .last .1 .1 .0)) ((c .before .before .before .before .before .before .before .before .before .before .before .before .before .before .split-edge) .ensures .0 ∙ ap (λ (z : ℤ). split (oldOf (s .args .vertices .now) (s .args .edges .now) (s .args .faces .now) (s .args .n) (s .args .h) (s .args .f)) (s .args .e) (s .args .q) z) (toZ-ofZ (s .fits .value))) (chartOf ((c .before .before .before .before .before .legalize) .last .0) ((c .before .before .before .before .before .legalize) .last .1 .0) ((c .before .before .before .before .before .legalize) .last .1 .1 .0)) ((c .before .before .before .before .before .legalize) .ensures .0), new-then (s .args .n) (s .args .vertices .now) ((c .before .before .before .before .before .before .before .before .before .before .before .before .before .before .split-edge) .last .0) ((c .before .before .before .before .before .legalize) .last .0) ((c .before .before .before .before .before .before .before .before .before .before .before .before .before .before .split-edge) .ensures .1) ((c .before .before .before .before .before .legalize) .ensures .1))
+returns c =
+    let s = c .before .before .before .before .before .before .before .before .before .before .before .before .before .before .before .before .before .before .before .before in
+    let p = c .before .before .before .before .before .before .before .before .before .before .before .before .before .before .split-edge in
+    let l = c .before .before .before .before .before .legalize in
+    (edge-leaves (s .args .vertices .now) (s .args .edges .now) (s .args .faces .now) (s .args .n) (s .args .h) (s .args .f) (s .pre .0) (s .pre .1 .0) (s .args .q) (s .args .value) (s .pre .1 .1 .0) (s .args .e) (s .pre .1 .1 .1) (chartOf (p .last .0) (p .last .1 .0) (p .last .1 .1 .0)) (p .ensures .0 ∙ ap (λ (z : ℤ). split (oldOf (s .args .vertices .now) (s .args .edges .now) (s .args .faces .now) (s .args .n) (s .args .h) (s .args .f)) (s .args .e) (s .args .q) z) (toZ-ofZ (s .fits .value))) (chartOf (l .last .0) (l .last .1 .0) (l .last .1 .1 .0)) (l .ensures .0), new-then (s .args .n) (s .args .vertices .now) (p .last .0) (l .last .0) (p .ensures .1) (l .ensures .1))
 
 pub insert-on-edge-spec : {M : Type 1} → statement M
 insert-on-edge-spec =

@@ -1,5 +1,5 @@
 -- `insertion::insert_vertex` meets its contract: one case of the site after the other. Assumes nothing.
-use mathlib.Core.Path.{_≡_, refl, sym, subst, ap, _∙_}
+use mathlib.Core.Path.{sym, subst, _∙_}
 use Prim.Native.Nat.{_*_}
 use native.Mathlib.Omega.{arith}
 use lib.IntN.{ℤ}
@@ -47,16 +47,18 @@ enum-known-site c = search needs
 
 insert-in-face-requires : tie.Need-insert-in-face-requires
 insert-in-face-requires c κs =
-    let s = (c .before .before .before .before .before .before .before .before .before .before .before .before) in
-    (s .pre .0, (s .pre .1 .0, (subst (λ (z : ℤ). Askable (oldOf (s .args .vertices .now) (s .args .edges .now) (s .args .faces .now) (s .args .n) (s .args .h) (s .args .f)) (s .args .q) z) (sym (toZ-ofZ (s .fits .value))) (s .pre .1 .1), face-site (oldOf (s .args .vertices .now) (s .args .edges .now) (s .args .faces .now) (s .args .n) (s .args .h) (s .args .f)) (s .pre .1 .0) (s .args .q) ((c .before .before .before .before .site) .given .0 .0) (sym ((c .before .before .before .before .before .before .site-at) .ensures) ∙ (c .before .before .before .before .site) .given .1))))
+    let s = c .before .before .before .before .before .before .before .before .before .before .before .before in
+    let i = c .before .before .before .before .site in
+    (s .pre .0, (s .pre .1 .0, (subst (λ (z : ℤ). Askable (oldOf (s .args .vertices .now) (s .args .edges .now) (s .args .faces .now) (s .args .n) (s .args .h) (s .args .f)) (s .args .q) z) (sym (toZ-ofZ (s .fits .value))) (s .pre .1 .1), face-site (oldOf (s .args .vertices .now) (s .args .edges .now) (s .args .faces .now) (s .args .n) (s .args .h) (s .args .f)) (s .pre .1 .0) (s .args .q) (i .given .0 .0) (sym ((c .before .before .before .before .before .before .site-at) .ensures) ∙ i .given .1))))
 
 enum-known-site-2 : tie.Need-enum-known-site-2
 enum-known-site-2 c = search needs
 
 insert-on-edge-requires : tie.Need-insert-on-edge-requires
 insert-on-edge-requires c κs =
-    let s = (c .before .before .before .before .before .before .before .before .before .before .before .before) in
-    (s .pre .0, (s .pre .1 .0, (subst (λ (z : ℤ). Askable (oldOf (s .args .vertices .now) (s .args .edges .now) (s .args .faces .now) (s .args .n) (s .args .h) (s .args .f)) (s .args .q) z) (sym (toZ-ofZ (s .fits .value))) (s .pre .1 .1), edge-site (oldOf (s .args .vertices .now) (s .args .edges .now) (s .args .faces .now) (s .args .n) (s .args .h) (s .args .f)) (s .pre .1 .0) (s .args .q) ((c .before .before .before .before .site2) .given .0 .0) (sym ((c .before .before .before .before .before .before .site-at) .ensures) ∙ (c .before .before .before .before .site2) .given .1))))
+    let s = c .before .before .before .before .before .before .before .before .before .before .before .before in
+    let i = c .before .before .before .before .site2 in
+    (s .pre .0, (s .pre .1 .0, (subst (λ (z : ℤ). Askable (oldOf (s .args .vertices .now) (s .args .edges .now) (s .args .faces .now) (s .args .n) (s .args .h) (s .args .f)) (s .args .q) z) (sym (toZ-ofZ (s .fits .value))) (s .pre .1 .1), edge-site (oldOf (s .args .vertices .now) (s .args .edges .now) (s .args .faces .now) (s .args .n) (s .args .h) (s .args .f)) (s .pre .1 .0) (s .args .q) (i .given .0 .0) (sym ((c .before .before .before .before .before .before .site-at) .ensures) ∙ i .given .1))))
 
 enum-told : tie.Need-enum-told
 enum-told c = search needs
@@ -72,9 +74,10 @@ same-length-3 c = search needs
 
 returns : tie.Need-returns
 returns c =
-    let s = (c .before .before .before .before .before .before .before .before .before .before .before .before .before .before .before .before .before .before) in
-    let d : Chart = chartOf ((c .before .before .before .before .before .insert-in-face) .last .0) ((c .before .before .before .before .before .insert-in-face) .last .1 .0) ((c .before .before .before .before .before .insert-in-face) .last .1 .1 .0) in
-    (went-inside (oldOf (s .args .vertices .now) (s .args .edges .now) (s .args .faces .now) (s .args .n) (s .args .h) (s .args .f)) (s .args .q) (s .args .value) d _ ((sym ((c .before .before .before .before .before .before .before .before .before .before .before .before .site-at) .ensures) ∙ (c .before .before .before .before .before .before .before .before .before .before .site) .given .1)) (subst (λ (z : ℤ). Joined (oldOf (s .args .vertices .now) (s .args .edges .now) (s .args .faces .now) (s .args .n) (s .args .h) (s .args .f)) (s .args .q) z d) (toZ-ofZ (s .fits .value)) ((c .before .before .before .before .before .insert-in-face) .ensures .0)), (c .before .before .before .before .before .insert-in-face) .ensures .1 .keeps, λ p. (c .before .before .before .before .before .insert-in-face) .ensures .1 .new)
+    let s = c .before .before .before .before .before .before .before .before .before .before .before .before .before .before .before .before .before .before in
+    let i = c .before .before .before .before .before .insert-in-face in
+    let d : Chart = chartOf (i .last .0) (i .last .1 .0) (i .last .1 .1 .0) in
+    (went-inside (oldOf (s .args .vertices .now) (s .args .edges .now) (s .args .faces .now) (s .args .n) (s .args .h) (s .args .f)) (s .args .q) (s .args .value) d _ ((sym ((c .before .before .before .before .before .before .before .before .before .before .before .before .site-at) .ensures) ∙ (c .before .before .before .before .before .before .before .before .before .before .site) .given .1)) (subst (λ (z : ℤ). Joined (oldOf (s .args .vertices .now) (s .args .edges .now) (s .args .faces .now) (s .args .n) (s .args .h) (s .args .f)) (s .args .q) z d) (toZ-ofZ (s .fits .value)) (i .ensures .0)), i .ensures .1 .keeps, λ p. i .ensures .1 .new)
 
 same-length-4 : tie.Need-same-length-4
 same-length-4 c = search needs
@@ -87,9 +90,10 @@ same-length-6 c = search needs
 
 returns-2 : tie.Need-returns-2
 returns-2 c =
-    let s = (c .before .before .before .before .before .before .before .before .before .before .before .before .before .before .before .before .before .before) in
-    let d : Chart = chartOf ((c .before .before .before .before .before .insert-on-edge) .last .0) ((c .before .before .before .before .before .insert-on-edge) .last .1 .0) ((c .before .before .before .before .before .insert-on-edge) .last .1 .1 .0) in
-    (went-across (oldOf (s .args .vertices .now) (s .args .edges .now) (s .args .faces .now) (s .args .n) (s .args .h) (s .args .f)) (s .args .q) (s .args .value) d _ ((sym ((c .before .before .before .before .before .before .before .before .before .before .before .before .site-at) .ensures) ∙ (c .before .before .before .before .before .before .before .before .before .before .site2) .given .1)) (subst (λ (z : ℤ). Joined (oldOf (s .args .vertices .now) (s .args .edges .now) (s .args .faces .now) (s .args .n) (s .args .h) (s .args .f)) (s .args .q) z d) (toZ-ofZ (s .fits .value)) ((c .before .before .before .before .before .insert-on-edge) .ensures .0)), (c .before .before .before .before .before .insert-on-edge) .ensures .1 .keeps, λ p. (c .before .before .before .before .before .insert-on-edge) .ensures .1 .new)
+    let s = c .before .before .before .before .before .before .before .before .before .before .before .before .before .before .before .before .before .before in
+    let i = c .before .before .before .before .before .insert-on-edge in
+    let d : Chart = chartOf (i .last .0) (i .last .1 .0) (i .last .1 .1 .0) in
+    (went-across (oldOf (s .args .vertices .now) (s .args .edges .now) (s .args .faces .now) (s .args .n) (s .args .h) (s .args .f)) (s .args .q) (s .args .value) d _ ((sym ((c .before .before .before .before .before .before .before .before .before .before .before .before .site-at) .ensures) ∙ (c .before .before .before .before .before .before .before .before .before .before .site2) .given .1)) (subst (λ (z : ℤ). Joined (oldOf (s .args .vertices .now) (s .args .edges .now) (s .args .faces .now) (s .args .n) (s .args .h) (s .args .f)) (s .args .q) z d) (toZ-ofZ (s .fits .value)) (i .ensures .0)), i .ensures .1 .keeps, λ p. i .ensures .1 .new)
 
 same-length-7 : tie.Need-same-length-7
 same-length-7 c = search needs

@@ -33,7 +33,9 @@ loop-less : tie.Need-loop-less Inv-loop μ-loop
 loop-less c = let l = (c .before .before .loop-test) .taken in omega arith
 
 loop-again : tie.Need-loop-again Inv-loop μ-loop
-loop-again c = (let l = (c .before .before .loop-test) .taken in omega arith, (c .before .before .before .loop) .inv .1 ∙ from-miss _ _ _ ((c .before .before .loop-test) .taken) (sym ((c .before .wants-flip) .ensures) ∙ (c .if1) .left))
+loop-again c =
+    let o = c .before .before .loop-test in
+    (let l = o .taken in omega arith, (c .before .before .before .loop) .inv .1 ∙ from-miss _ _ _ (o .taken) (sym ((c .before .wants-flip) .ensures) ∙ (c .if1) .left))
 
 returns-2 : tie.Need-returns-2 Inv-loop μ-loop
 returns-2 c = sym ((c .before .loop) .inv .1 ∙ from-end _ _ _ ((c .loop-test) .left))

@@ -21,16 +21,31 @@ loop-holds : tie.Need-loop-holds Inv-loop μ-loop
 loop-holds c = let s = (c .before .before .before .before .before .before) in record { reached = begun _ _ (s .pre .1) (s .pre .0); next = (c .find-flip) .ensures; v-long = refl; e-long = refl; f-long = refl; outed = λ u o. o }
 
 flip-cw-requires : tie.Need-flip-cw-requires Inv-loop μ-loop
-flip-cw-requires c κs = let s = (c .before .before .before .before .before .before .before .before .before .before .before) in ((c .before .before .before .before .loop) .inv .reached .range, turning-in (s .args .vertices .now) (s .args .edges .now) (s .args .faces .now) ((c .before .before .before .before .loop) .vertices) ((c .before .before .before .before .loop) .edges) ((c .before .before .before .before .loop) .faces) (s .args .n) ((c .before .before .before .before .loop) .h) ((c .before .before .before .before .loop) .inv) ((c .before .before .before .loop-test) .taken))
+flip-cw-requires c κs =
+    let s = c .before .before .before .before .before .before .before .before .before .before .before in
+    let l = c .before .before .before .before .loop in
+    (l .inv .reached .range, turning-in (s .args .vertices .now) (s .args .edges .now) (s .args .faces .now) (l .vertices) (l .edges) (l .faces) (s .args .n) (l .h) (l .inv) ((c .before .before .before .loop-test) .taken))
 
 find-flip-requires-2 : tie.Need-find-flip-requires-2 Inv-loop μ-loop
-find-flip-requires-2 c κs = let s = (c .before .before .before .before .before .before .before .before .before .before .before .before .before .before .before .before .before .before .before .before) in let r = turned (s .args .vertices .now) (s .args .edges .now) (s .args .faces .now) ((c .before .before .before .before .before .before .before .before .before .before .before .before .before .loop) .vertices) ((c .before .before .before .before .before .before .before .before .before .before .before .before .before .loop) .edges) ((c .before .before .before .before .before .before .before .before .before .before .before .before .before .loop) .faces) (s .args .n) ((c .before .before .before .before .before .before .before .before .before .before .before .before .before .loop) .h) ((c .before .before .before .before .before .before .before .before .before .before .before .before .before .loop) .inv) ((c .before .before .before .before .before .before .before .before .before .before .before .before .loop-test) .taken) ((c .before .before .before .before .before .before .before .before .flip-cw) .last .0) ((c .before .before .before .before .before .before .before .before .flip-cw) .last .1 .0) ((c .before .before .before .before .before .before .before .before .flip-cw) .last .1 .1 .0) ((c .before .before .before .before .before .before .before .before .flip-cw) .ensures .0) in (r .range, last-in (r .growing))
+find-flip-requires-2 c κs =
+    let s = c .before .before .before .before .before .before .before .before .before .before .before .before .before .before .before .before .before .before .before .before in
+    let l = c .before .before .before .before .before .before .before .before .before .before .before .before .before .loop in
+    let f = c .before .before .before .before .before .before .before .before .flip-cw in
+    let r = turned (s .args .vertices .now) (s .args .edges .now) (s .args .faces .now) (l .vertices) (l .edges) (l .faces) (s .args .n) (l .h) (l .inv) ((c .before .before .before .before .before .before .before .before .before .before .before .before .loop-test) .taken) (f .last .0) (f .last .1 .0) (f .last .1 .1 .0) (f .ensures .0) in (r .range, last-in (r .growing))
 
 loop-less : tie.Need-loop-less Inv-loop μ-loop
-loop-less c = let s = (c .before .before .before .before .before .before .before .before .before .before .before .before .before .before .before .before .before .before .before .before .before) in turned-less (s .args .vertices .now) (s .args .edges .now) (s .args .faces .now) ((c .before .before .before .before .before .before .before .before .before .before .before .before .before .before .loop) .vertices) ((c .before .before .before .before .before .before .before .before .before .before .before .before .before .before .loop) .edges) ((c .before .before .before .before .before .before .before .before .before .before .before .before .before .before .loop) .faces) (s .args .n) ((c .before .before .before .before .before .before .before .before .before .before .before .before .before .before .loop) .h) ((c .before .before .before .before .before .before .before .before .before .before .before .before .before .before .loop) .inv) ((c .before .before .before .before .before .before .before .before .before .before .before .before .before .loop-test) .taken) ((c .before .before .before .before .before .before .before .before .before .flip-cw) .last .0) ((c .before .before .before .before .before .before .before .before .before .flip-cw) .last .1 .0) ((c .before .before .before .before .before .before .before .before .before .flip-cw) .last .1 .1 .0) ((c .before .before .before .before .before .before .before .before .before .flip-cw) .ensures .0)
+loop-less c =
+    let s = c .before .before .before .before .before .before .before .before .before .before .before .before .before .before .before .before .before .before .before .before .before in
+    let l = c .before .before .before .before .before .before .before .before .before .before .before .before .before .before .loop in
+    let f = c .before .before .before .before .before .before .before .before .before .flip-cw in
+    turned-less (s .args .vertices .now) (s .args .edges .now) (s .args .faces .now) (l .vertices) (l .edges) (l .faces) (s .args .n) (l .h) (l .inv) ((c .before .before .before .before .before .before .before .before .before .before .before .before .before .loop-test) .taken) (f .last .0) (f .last .1 .0) (f .last .1 .1 .0) (f .ensures .0)
 
 loop-again : tie.Need-loop-again Inv-loop μ-loop
-loop-again c = let s = (c .before .before .before .before .before .before .before .before .before .before .before .before .before .before .before .before .before .before .before .before .before) in turned-on (s .args .vertices .now) (s .args .edges .now) (s .args .faces .now) ((c .before .before .before .before .before .before .before .before .before .before .before .before .before .before .loop) .vertices) ((c .before .before .before .before .before .before .before .before .before .before .before .before .before .before .loop) .edges) ((c .before .before .before .before .before .before .before .before .before .before .before .before .before .before .loop) .faces) (s .args .n) ((c .before .before .before .before .before .before .before .before .before .before .before .before .before .before .loop) .h) ((c .before .before .before .before .before .before .before .before .before .before .before .before .before .before .loop) .inv) ((c .before .before .before .before .before .before .before .before .before .before .before .before .before .loop-test) .taken) ((c .before .before .before .before .before .before .before .before .before .flip-cw) .last .0) ((c .before .before .before .before .before .before .before .before .before .flip-cw) .last .1 .0) ((c .before .before .before .before .before .before .before .before .before .flip-cw) .last .1 .1 .0) ((c .before .before .before .before .before .before .before .before .before .flip-cw) .ensures .0) ((c .find-flip2) .result) ((c .find-flip2) .ensures) ((c .before .before .before .before .before .before .before .before .before .flip-cw) .kept .0) ((c .before .before .before .before .before .before .before .before .before .flip-cw) .kept .1 .0) ((c .before .before .before .before .before .before .before .before .before .flip-cw) .kept .1 .1 .0) ((c .before .before .before .before .before .before .before .before .before .flip-cw) .ensures .1)
+loop-again c =
+    let s = c .before .before .before .before .before .before .before .before .before .before .before .before .before .before .before .before .before .before .before .before .before in
+    let l = c .before .before .before .before .before .before .before .before .before .before .before .before .before .before .loop in
+    let f = c .before .before .before .before .before .before .before .before .before .flip-cw in
+    turned-on (s .args .vertices .now) (s .args .edges .now) (s .args .faces .now) (l .vertices) (l .edges) (l .faces) (s .args .n) (l .h) (l .inv) ((c .before .before .before .before .before .before .before .before .before .before .before .before .before .loop-test) .taken) (f .last .0) (f .last .1 .0) (f .last .1 .1 .0) (f .ensures .0) ((c .find-flip2) .result) ((c .find-flip2) .ensures) (f .kept .0) (f .kept .1 .0) (f .kept .1 .1 .0) (f .ensures .1)
 
 same-length : tie.Need-same-length Inv-loop μ-loop
 same-length c = (c .before .loop) .inv .v-long

@@ -1,7 +1,6 @@
 -- `legal::wants_flip` meets its contract: the tests in their order. Assumes nothing.
 use Prim.Native.Nat.{_<_}
 use Rattle.chart.specs.Tables.{rows}
-use mathlib.Core.Path.{sym}
 use native.Mathlib.Omega.{arith}
 use Rattle.chart.specs.Chart.{chartOf, partner-in}
 use Rattle.legal.specs.Legal.{wants-outer, wants-other, wants-rim, wants-last}
@@ -43,7 +42,10 @@ prev-of-requires-2 : tie.Need-prev-of-requires-2
 prev-of-requires-2 c κs = let s = (c .before .before .before .before .before .before .before .before .before .before .before .before) in omega (arith, partner-in (s .pre .0) (s .args .h) (s .pre .1 .1), (c .before .before .before .before .partner-of) .ensures)
 
 from-of-requires-2 : tie.Need-from-of-requires-2
-from-of-requires-2 c κs = let s = (c .before .before .before .before .before .before .before .before .before .before .before .before .before) in let t : (c .before .before .before .before .before .partner-of) .result < rows (s .args .edges .now) = omega (arith, partner-in (s .pre .0) (s .args .h) (s .pre .1 .1), (c .before .before .before .before .before .partner-of) .ensures) in (s .pre .0, omega (arith, s .pre .0 .prevs ((c .before .before .before .before .before .partner-of) .result) t, (c .prev-of2) .ensures))
+from-of-requires-2 c κs =
+    let s = c .before .before .before .before .before .before .before .before .before .before .before .before .before in
+    let p = c .before .before .before .before .before .partner-of in
+    let t : p .result < rows (s .args .edges .now) = omega (arith, partner-in (s .pre .0) (s .args .h) (s .pre .1 .1), p .ensures) in (s .pre .0, omega (arith, s .pre .0 .prevs (p .result) t, (c .prev-of2) .ensures))
 
 place-of-requires : tie.Need-place-of-requires
 place-of-requires c κs = let s = (c .before .before .before .before .before .before .before .before .before .before .before .before .before .before) in s .pre .1 .0

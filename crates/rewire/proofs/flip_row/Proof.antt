@@ -1,5 +1,4 @@
 -- `rewire::flip_row` meets its contract: each number is read from its column. Assumes nothing.
-use mathlib.Core.Path.{sym}
 use native.Mathlib.Omega.{arith}
 use borrow.Author.Needs.{needs}
 use Rattle.rewire.proofs.flip_row.Statement.{statement}

@@ -76,10 +76,11 @@ same-length c = search needs
 returns : tie.Need-returns
 unfolding rowIn
 returns c =
-    let s = (c .before .before) in
+    let s = c .before .before in
+    let t = c .before .struct-told in
     let v = s .args .v in
-    let x : toZ w64 (ofZ w64 (s .args .q .x)) ≡ s .args .q .x = toZ-ofZ (record { sfits = (c .before .struct-told) .given .0 .1 }) in
-    let y : toZ w64 (ofZ w64 (s .args .q .y)) ≡ s .args .q .y = toZ-ofZ (record { sfits = (c .before .struct-told) .given .1 .0 .1 }) in
+    let x : toZ w64 (ofZ w64 (s .args .q .x)) ≡ s .args .q .x = toZ-ofZ (record { sfits = t .given .0 .1 }) in
+    let y : toZ w64 (ofZ w64 (s .args .q .y)) ≡ s .args .q .y = toZ-ofZ (record { sfits = t .given .1 .0 .1 }) in
     let z : toZ w64 (ofZ w64 (s .args .value)) ≡ s .args .value = toZ-ofZ (s .fits .value) in
     let o : toZ w64 (s .args .out) ≡ pos (s .args .out) = toZ-pos w64 (omega arith) in
     λ i. set (set (set (set (s .args .vertices .now) (v * 4) (x i)) (v * 4 + 1) (y i)) (v * 4 + 2) (z i)) (v * 4 + 3) (o i)
