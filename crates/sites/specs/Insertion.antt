@@ -42,7 +42,7 @@ insertRefusal (loaded vs es fs) q z = vertexRefusal (chartOf vs es fs) q z
 insertRefusal (refused n) q z = n
 
 -- 02 CR 13: "keeps all earlier vertices with their numbers, places and values, and has the new one last; its links beyond that are free". Its counts are not:
--- a vertex inside the hull has six half-edges and two faces more (Euler)
+-- with a vertex more inside the hull a triangulation has six half-edges and two faces more (Euler)
 pub record Extended (c : Chart) (q : Place) (z : ℤ) (d : Chart) : Type 0 where
   pub vertices-more : d .vertices ≡ c .vertices + 1
   pub half-edges-more : d .halfEdges ≡ c .halfEdges + 6
