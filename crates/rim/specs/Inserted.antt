@@ -29,6 +29,7 @@ use Rattle.locate.specs.Location.{locationOf}
 use Rattle.patches.specs.Rows.{hitOf, faceHit}
 use Rattle.patches.specs.Flip.{flipped}
 use Rattle.patches.specs.Insert.{inserted}
+use Rattle.patches.specs.Split.{split}
 use Rattle.writing.specs.Writing.{Written, Saved, roomRefusal, savedBy}
 use Rattle.writing.specs.Writing.Written.{wrote, turnedDown}
 use Rattle.sites.specs.Insertion.{noSite, vertexRefusal, insertRefusal, Extended}
@@ -110,14 +111,89 @@ fileN = chartText verticesN (map pos edgesN) (map pos facesN)
 abbrev A : Chart
 A = chartOf verticesA edgesA facesA
 
--- the square with a test at (6,2), in its face 1, joined to the corners of that face
-unfoldable pub joined : Chart
-joined =
-    inserted
-    (chartOf (pos 0 ∷ pos 0 ∷ pos 1 ∷ pos 0 ∷ pos 10 ∷ pos 0 ∷ pos 2 ∷ pos 2 ∷ pos 10 ∷ pos 10 ∷ pos 3 ∷ pos 4 ∷ pos 0 ∷ pos 10 ∷ pos 4 ∷ pos 6 ∷ [])
+-- the square, and with a test at (6,2), in its face 1, joined to the corners of that face
+abbrev squareQ : Chart
+squareQ =
+    chartOf (pos 0 ∷ pos 0 ∷ pos 1 ∷ pos 0 ∷ pos 10 ∷ pos 0 ∷ pos 2 ∷ pos 2 ∷ pos 10 ∷ pos 10 ∷ pos 3 ∷ pos 4 ∷ pos 0 ∷ pos 10 ∷ pos 4 ∷ pos 6 ∷ [])
     (0 ∷ 2 ∷ 9 ∷ 1 ∷ 1 ∷ 7 ∷ 3 ∷ 0 ∷ 1 ∷ 9 ∷ 0 ∷ 1 ∷ 2 ∷ 1 ∷ 5 ∷ 0 ∷ 2 ∷ 6 ∷ 8 ∷ 2 ∷ 3 ∷ 3 ∷ 7 ∷ 0 ∷ 3 ∷ 8 ∷ 4 ∷ 2 ∷ 0 ∷ 5 ∷ 1 ∷ 0 ∷ 0 ∷ 4 ∷ 6 ∷ 2 ∷ 2 ∷ 0 ∷ 2 ∷ 1 ∷ [])
-    (1 ∷ 0 ∷ 8 ∷ []))
-    0 (place 6 2) (pos 7)
+    (1 ∷ 0 ∷ 8 ∷ [])
+
+unfoldable pub joined : Chart
+joined = inserted squareQ 0 (place 6 2) (pos 7)
+
+-- the links of a chart: the vertices' out half-edges; origin, next, prev and face of each half-edge; the faces' adjacent ones
+halfEdgesFrom : Chart → ℕ → ℕ → List ℕ
+halfEdgesFrom c h zero = []
+halfEdgesFrom c h (suc n) = c .origin h ∷ c .next h ∷ c .prev h ∷ c .face h ∷ halfEdgesFrom c (suc h) n
+
+below : ℕ → ℕ → List ℕ
+below i zero = []
+below i (suc n) = i ∷ below (suc i) n
+
+unfoldable pub linksOf : Chart → List ℕ
+unfolding halfEdgesFrom below
+linksOf c = map (c .out) (below 0 (c .vertices)) ++ (halfEdgesFrom c 0 (c .halfEdges) ++ map (c .adjacent) (below 0 (c .faces)))
+
+-- those that the sources' own operations leave: `insert_into_triangle` on triangle A, `split_edge` on the square's diagonal, and on the square with a test at
+-- (6,2) `insert_into_triangle`, then `flip_cw` of the diagonal
+abbrev rustInserted : List ℕ
+rustInserted =
+    0 ∷ 2 ∷ 4 ∷ 7
+    ∷ 0 ∷ 6 ∷ 11 ∷ 1
+    ∷ 1 ∷ 5 ∷ 3 ∷ 0
+    ∷ 1 ∷ 8 ∷ 7 ∷ 2
+    ∷ 2 ∷ 1 ∷ 5 ∷ 0
+    ∷ 2 ∷ 10 ∷ 9 ∷ 3
+    ∷ 0 ∷ 3 ∷ 1 ∷ 0
+    ∷ 1 ∷ 11 ∷ 0 ∷ 1
+    ∷ 3 ∷ 2 ∷ 8 ∷ 2
+    ∷ 2 ∷ 7 ∷ 2 ∷ 2
+    ∷ 3 ∷ 4 ∷ 10 ∷ 3
+    ∷ 0 ∷ 9 ∷ 4 ∷ 3
+    ∷ 3 ∷ 0 ∷ 6 ∷ 1
+    ∷ 1 ∷ 0 ∷ 2 ∷ 4 ∷ []
+
+abbrev rustSplit : List ℕ
+rustSplit =
+    0 ∷ 2 ∷ 12 ∷ 6 ∷ 9
+    ∷ 0 ∷ 10 ∷ 9 ∷ 1
+    ∷ 1 ∷ 7 ∷ 3 ∷ 0
+    ∷ 1 ∷ 12 ∷ 11 ∷ 3
+    ∷ 2 ∷ 1 ∷ 5 ∷ 0
+    ∷ 2 ∷ 14 ∷ 13 ∷ 4
+    ∷ 3 ∷ 3 ∷ 7 ∷ 0
+    ∷ 3 ∷ 8 ∷ 15 ∷ 2
+    ∷ 0 ∷ 5 ∷ 1 ∷ 0
+    ∷ 0 ∷ 15 ∷ 6 ∷ 2
+    ∷ 4 ∷ 0 ∷ 10 ∷ 1
+    ∷ 1 ∷ 9 ∷ 0 ∷ 1
+    ∷ 4 ∷ 2 ∷ 12 ∷ 3
+    ∷ 2 ∷ 11 ∷ 2 ∷ 3
+    ∷ 4 ∷ 4 ∷ 14 ∷ 4
+    ∷ 3 ∷ 13 ∷ 4 ∷ 4
+    ∷ 4 ∷ 6 ∷ 8 ∷ 2
+    ∷ 1 ∷ 10 ∷ 8 ∷ 12 ∷ 14 ∷ []
+
+abbrev rustFlipped : List ℕ
+rustFlipped =
+    14 ∷ 2 ∷ 4 ∷ 6 ∷ 11
+    ∷ 0 ∷ 10 ∷ 15 ∷ 1
+    ∷ 1 ∷ 7 ∷ 3 ∷ 0
+    ∷ 1 ∷ 12 ∷ 11 ∷ 3
+    ∷ 2 ∷ 1 ∷ 5 ∷ 0
+    ∷ 2 ∷ 8 ∷ 13 ∷ 2
+    ∷ 3 ∷ 3 ∷ 7 ∷ 0
+    ∷ 3 ∷ 14 ∷ 9 ∷ 4
+    ∷ 0 ∷ 5 ∷ 1 ∷ 0
+    ∷ 3 ∷ 13 ∷ 4 ∷ 2
+    ∷ 4 ∷ 6 ∷ 14 ∷ 4
+    ∷ 1 ∷ 15 ∷ 0 ∷ 1
+    ∷ 4 ∷ 2 ∷ 12 ∷ 3
+    ∷ 2 ∷ 11 ∷ 2 ∷ 3
+    ∷ 4 ∷ 4 ∷ 8 ∷ 2
+    ∷ 0 ∷ 9 ∷ 6 ∷ 4
+    ∷ 4 ∷ 0 ∷ 10 ∷ 1
+    ∷ 1 ∷ 0 ∷ 8 ∷ 2 ∷ 9 ∷ []
 
 pub record Rows : Type 0 where
   -- inside face 1; the values at both ends of their range, and one step past them
@@ -174,6 +250,12 @@ pub record Rows : Type 0 where
   pub flip-left-out : chartRefusal joined ≡ 11
   pub flip-made : chartRefusal (flipped joined 9) ≡ 0
   pub other-flip : chartRefusal (flipped joined 0) ≡ 7
+  -- an edge that is divided
+  pub split-made : chartRefusal (split squareQ 8 (place 5 5) (pos 7)) ≡ 0
+  -- "as far as possible with the operations in dcel_operations.rs": number by number
+  pub insert-rust : linksOf (inserted A 0 (place 2 3) (pos 150)) ≡ rustInserted
+  pub split-rust : linksOf (split squareQ 8 (place 5 5) (pos 7)) ≡ rustSplit
+  pub flip-rust : linksOf (flipped joined 9) ≡ rustFlipped
 
 -- the vertices of triangle A, one by one
 kept : (P : ℕ → Type 0) → P 0 → P 1 → P 2 → (v : ℕ) → v < 3 → P v
@@ -231,7 +313,7 @@ new-inserted =
     }
 
 pub rows : Rows
-unfolding square joined fileA verticesA edgesA facesA fileN from eqs spacesOf digitsOf columns lastDigit fieldText valueOf candidate fieldOf lineOf tableOf lineText tableText offGrid crossOf dotOf norm2Of side lifted circle onOpenSegment countsRefused notBelow badVertex badHalfEdge badFace outOfRange linked linksBroken chartRefusal tablesRefusal countsOf headOf bodyOf loadOf chartIn chartText hitOf faceHit locationOf vertexRefusal insertRefusal
+unfolding linksOf square joined fileA verticesA edgesA facesA fileN from eqs spacesOf digitsOf columns lastDigit fieldText valueOf candidate fieldOf lineOf tableOf lineText tableText offGrid crossOf dotOf norm2Of side lifted circle onOpenSegment countsRefused notBelow badVertex badHalfEdge badFace outOfRange linked linksBroken chartRefusal tablesRefusal countsOf headOf bodyOf loadOf chartIn chartText hitOf faceHit locationOf vertexRefusal insertRefusal
 rows =
     record {
       inside = refl;
@@ -275,4 +357,8 @@ rows =
       flip-left-out = refl;
       flip-made = refl;
       other-flip = refl;
+      split-made = refl;
+      insert-rust = refl;
+      split-rust = refl;
+      flip-rust = refl;
     }
