@@ -34,8 +34,12 @@ insertRows c e =
     ∷ insertRow₂ (rowAt c e) (c .vertices) (c .halfEdges) (c .faces)
     ∷ []
 
+-- the new vertex's out half-edge
+abbrev pub newOut : Chart → ℕ
+newOut c = c .halfEdges + 1
+
 abbrev pub inserted : Chart → ℕ → Place → ℤ → Chart
-inserted c e q z = grownWith c (insertRows c e) (put (c .vertices) (c .halfEdges + 1) (c .out)) q z
+inserted c e q z = grownWith c (insertRows c e) (put (c .vertices) (newOut c) (c .out)) q z
 
 -- ---- what holds of new numbers
 pub over : {k m : ℕ} (i : ℕ) → k < m → k ≡ m + i → ⊥
@@ -241,7 +245,7 @@ module _ (c : Chart) (w : Wired c) (e : ℕ) (ie : Inner c e) (q : Place) (z : �
   out-at : (v : ℕ) → v < c .vertices + 1 → (d .out v < H + 6) × (d .origin (d .out v) ≡ v)
   out-at v l = go (eqb v (c .vertices)) refl
     where
-      go : (a : Bool) → eqb v (c .vertices) ≡ a → (cond a (H + 1) (c .out v) < H + 6) × (d .origin (cond a (H + 1) (c .out v)) ≡ v)
+      go : (a : Bool) → eqb v (c .vertices) ≡ a → (cond a (newOut c) (c .out v) < H + 6) × (d .origin (cond a (newOut c) (c .out v)) ≡ v)
       go true p = (omega arith, from-at (H + 1) (turn (turn r₁)) (hit-prev rs (c .next e) r₁ apart hit₁) ∙ sym (eqb-true v (c .vertices) p))
       go false p =
           let m : v < c .vertices = let n = eqb-false v (c .vertices) p in omega arith in

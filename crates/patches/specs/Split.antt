@@ -39,8 +39,12 @@ splitRows c e t =
     ∷ splitRow₃ (rowAt c e) (rowAt c t) (c .vertices) (c .halfEdges) (c .faces)
     ∷ []
 
+-- the out half-edge of the vertex where the edge ended: its old one may be t, which now starts at the new vertex
+abbrev pub endOut : Chart → ℕ → ℕ
+endOut c t = c .halfEdges + 2
+
 abbrev pub splitOut : Chart → ℕ → ℕ → ℕ
-splitOut c t = put (c .origin t) (c .halfEdges + 2) (put (c .vertices) t (c .out))
+splitOut c t = put (c .origin t) (endOut c t) (put (c .vertices) t (c .out))
 
 abbrev pub split : Chart → ℕ → Place → ℤ → Chart
 split c e q z = grownWith c (splitRows c e (partner e)) (splitOut c (partner e)) q z
@@ -318,7 +322,7 @@ module _ (c : Chart) (w : Wired c) (e : ℕ) (ie : Inner c e) (it : Inner c (par
   out-at : (v : ℕ) → v < c .vertices + 1 → (d .out v < H + 6) × (d .origin (d .out v) ≡ v)
   out-at v l = go (eqb v (c .origin t)) refl (eqb v (c .vertices)) refl
     where
-      go : (a : Bool) → eqb v (c .origin t) ≡ a → (b : Bool) → eqb v (c .vertices) ≡ b → (cond a (H + 2) (cond b t (c .out v)) < H + 6) × (d .origin (cond a (H + 2) (cond b t (c .out v))) ≡ v)
+      go : (a : Bool) → eqb v (c .origin t) ≡ a → (b : Bool) → eqb v (c .vertices) ≡ b → (cond a (endOut c t) (cond b t (c .out v)) < H + 6) × (d .origin (cond a (endOut c t) (cond b t (c .out v))) ≡ v)
       go true k b p = (omega arith, from-at (H + 2) r₂ hit₂ ∙ sym (eqb-true v (c .origin t) k))
       go false k true p = (let x = it .0 in omega arith, from-at t (turn r₁) (hit-next rs H r₁ apart hit₁) ∙ sym (eqb-true v (c .vertices) p))
       go false k false p =
