@@ -11,7 +11,7 @@ use Rattle.entries.specs.Entry.{entries_of}
 use Rattle.entries.specs.Ruling.{answer_of}
 use Rattle.accounts.specs.Rulings.{Queries}
 use Rattle.accounts.specs.Batch.{book_verdict, book_change, book_after, answers_from, overlay}
-use Rattle.batch.specs.declared.Step.{step_max}
+use Rattle.batch.specs.declared.Step.{Step}
 
 -- the value of a load by a method, whatever the bytes from which the tables were read
 abbrev pub on_tables : Chart → Queries
@@ -24,7 +24,7 @@ Changeable b (Splice i) = SpliceFits b i
 Changeable b (Refused k) = Unit {0}
 
 -- an entry's answer and the book after it
-abbrev pub step_of : Queries → List ℕ → Book → Entry → step_max
+abbrev pub step_of : Queries → List ℕ → Book → Entry → Step
 step_of Q bytes b e = record { answer = answer_of (book_verdict Q bytes b e); book = book_change b (book_verdict Q bytes b e) }
 
 -- the book and the answer slice that a batch leaves

@@ -8,7 +8,7 @@ use Rattle.chart.specs.Limits.{most_half_edges}
 use Rattle.chart.specs.Chart.{chart_of}
 use Rattle.entries.specs.declared.Entry.{Entry}
 use Rattle.entries.specs.Entry.{entry_width, entry_at}
-use Rattle.batch.specs.declared.Step.{step_max}
+use Rattle.batch.specs.declared.Step.{Step}
 use Rattle.batch.specs.Tables.{on_tables, step_of}
 use Rattle.batch.specs.Running.{Running, running-start, running-next, running-end}
 use borrow.Author.Rules.{rules}
@@ -76,7 +76,7 @@ loop-again c =
     let l = c.before.before.before.before.before.before.before.before.before.before.loop in
     let s = c.before.before.before.before.before.before.before.before.before.before.before.before.before.before.before.before.before.before in
     let a = s.args in (
-      subst (λ (r : step_max). Running (on_tables (chart_of a.vertices.now a.edges.now a.faces.now)) [] a.entries.now a.answers.now (length a.entries.now / entry_width) a.book (set l.answers l.i r.answer) r.book (l.i + 1)) (sym (stepped c.before.before.before.before))
+      subst (λ (r : Step). Running (on_tables (chart_of a.vertices.now a.edges.now a.faces.now)) [] a.entries.now a.answers.now (length a.entries.now / entry_width) a.book (set l.answers l.i r.answer) r.book (l.i + 1)) (sym (stepped c.before.before.before.before))
           (running-next (on_tables (chart_of a.vertices.now a.edges.now a.faces.now)) [] a.entries.now a.answers.now (length a.entries.now / entry_width) a.book l.answers l.b l.i l.invariant.0 c.before.before.before.before.before.before.before.before.before.loop-test.true s.requires.1.1.0),
       c.before.before.before.list2.given,
       c.before.before.xs2.given,

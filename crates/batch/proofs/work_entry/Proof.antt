@@ -9,7 +9,7 @@ use Rattle.entries.specs.declared.Ruling.{Ruling}
 use Rattle.entries.specs.Ruling.{UpTo17, with17, answer_of}
 use Rattle.accounts.specs.Rulings.{Known, known}
 use Rattle.accounts.specs.Batch.{book_verdict, book_change}
-use Rattle.batch.specs.declared.Step.{step_max}
+use Rattle.batch.specs.declared.Step.{Step}
 use Rattle.batch.specs.Tables.{on_tables, Changeable}
 use Rattle.batch.specs.Laws.{verdict-up-to-17, verdict-fits}
 use borrow.Author.Rules.{rules}
@@ -57,8 +57,8 @@ returns : tie.Need-returns
 returns c =
     let v = c.before.before in
     let b = v.before.before.before.before.before.before.before.before.before.before.before.before.before.before.before.before.before.args.book in
-    let w : Ruling → step_max = λ r. record { answer = answer_of r; book = book_change b r } in
-    let g : ℕ → Book → step_max = λ n x. record { answer = n; book = x } in
+    let w : Ruling → Step = λ r. record { answer = answer_of r; book = book_change b r } in
+    let g : ℕ → Book → Step = λ n x. record { answer = n; book = x } in
     ap (λ (n : ℕ). g n c.changed.result) c.before.answer-of.ensures
     ∙ (ap (g (answer_of v.verdict.result)) c.changed.ensures ∙ ap w (verdict-is v))
 
