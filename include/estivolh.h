@@ -1,6 +1,6 @@
 /* The public calls of Estivolh for C: wear charts and the rope book. Version 1.5.0.
  *
- * Link libestivolh_c.a (rt staticlib estivolh_c writes it, for x86-64 Linux); of the C library it needs memcpy and memset.
+ * Link libestivolh_c.a (tools/staticlib makes it, for x86-64 Linux); of the C library it needs memcpy and memset.
  *
  * NEW IN 1.5.0: estivolh_insert, and refusals 25 and 26, which no other call gives. All else is as in 1.4.0; callers change nothing.
  * NEW IN 1.4.0, and it broke callers' source where they named it: ESTIVOLH_REFUSED_BROKEN_TURN is gone, and no call returns 15. No turn about

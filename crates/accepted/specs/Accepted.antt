@@ -10,7 +10,8 @@ use Rattle.chart.specs.Chart.{Chart, InRange}
 use Rattle.ranges.specs.Ranges.{value_max}
 use Rattle.ranges.specs.Passed.{Counted}
 use Rattle.sound.specs.Tests.{above_zero}
-use Rattle.sound.specs.Sound.{Sound, Inner, start, end, apex, sound}
+use Rattle.sound.specs.Sound.{Sound, Inner, start, end, apex}
+use Rattle.sound.proofs.Sound.{sound}
 use Rattle.nearby.specs.Local.{circ-adjacent}
 use Rattle.accepted.specs.Tests.{Passed, circle-at}
 

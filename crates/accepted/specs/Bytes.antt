@@ -21,10 +21,10 @@ use Rattle.accepted.specs.Tests.{passed}
 use Rattle.accepted.specs.Accepted.{Accepted, accepted}
 
 -- ---- the tables of a body are as long as the counts say
-record Sized (v e f : ℕ) (vs es fs : List ℤ) : Type 0 where
-  v-size : length vs ≡ 4 * v
-  e-size : length es ≡ 4 * e
-  f-size : length fs ≡ f
+pub record Sized (v e f : ℕ) (vs es fs : List ℤ) : Type 0 where
+  pub v-size : length vs ≡ 4 * v
+  pub e-size : length es ≡ 4 * e
+  pub f-size : length fs ≡ f
 
 three-sized : (v e f : ℕ) (a b c : Cells) (vs es fs : List ℤ) → ((l : List ℤ) → a ≡ cells l → length l ≡ 4 * v) → ((l : List ℤ) → b ≡ cells l → length l ≡ 4 * e) → ((l : List ℤ) → c ≡ cells l → length l ≡ 1 * f) → three a b c ≡ body vs es fs → Sized v e f vs es fs
 three-sized v e f (cells x) (cells y) (cells z) vs es fs p q r h =
@@ -40,7 +40,7 @@ pick-body : (b : Bool) (x y : Body) (vs es fs : List ℤ) → y ≡ malformed 3 
 pick-body true x y vs es fs m h = h
 pick-body false x y vs es fs m h = never (cc)
 
-body-sized : (v e f : ℕ) (s : List ℕ) (vs es fs : List ℤ) → body_of v e f s ≡ body vs es fs → Sized v e f vs es fs
+pub body-sized : (v e f : ℕ) (s : List ℕ) (vs es fs : List ℤ) → body_of v e f s ≡ body vs es fs → Sized v e f vs es fs
 unfolding body_of
 body-sized v e f s vs es fs h =
     three-sized v e f (table_of 4 v (drop head_length s)) (table_of 4 e (drop (head_length + line_bytes 4 * v) s))
@@ -50,7 +50,7 @@ body-sized v e f s vs es fs h =
     (pick-body (eqb (length s) (file_length v e f)) _ _ vs es fs refl h)
 
 -- ---- tables that no row refuses
-tables-passed : (vs es fs : List ℤ) → tables_refusal vs es fs ≡ 0 → (out_of_range vs es fs ≡ false) × (chart_refusal (chart_of vs (unsigned_all es) (unsigned_all fs)) ≡ 0)
+pub tables-passed : (vs es fs : List ℤ) → tables_refusal vs es fs ≡ 0 → (out_of_range vs es fs ≡ false) × (chart_refusal (chart_of vs (unsigned_all es) (unsigned_all fs)) ≡ 0)
 unfolding tables_refusal
 tables-passed vs es fs h = split (out_of_range vs es fs) refl h
   where
@@ -58,32 +58,12 @@ tables-passed vs es fs h = split (out_of_range vs es fs) refl h
     split true e k = never (cc)
     split false e k = (e, k)
 
-quarter : (n m : ℕ) → m ≡ 4 * n → m / 4 ≡ n
+pub quarter : (n m : ℕ) → m ≡ 4 * n → m / 4 ≡ n
 quarter n m e = omega arith
 
-tables-accepted : (v e f : ℕ) (vs es fs : List ℤ) → Counted v e f → Sized v e f vs es fs → tables_refusal vs es fs ≡ 0 → Accepted (chart_of vs (unsigned_all es) (unsigned_all fs))
-tables-accepted v e f vs es fs n s h =
-    let t = tables-passed vs es fs h in
-    let a : rows vs ≡ v = quarter v (length vs) s.v-size in
-    let b : rows es ≡ e = quarter e (length es) s.e-size in
-    let d : rows (unsigned_all es) ≡ e = ap (λ (k : ℕ). k / 4) (length-map es unsigned) ∙ b in
-    let g : length (unsigned_all fs) ≡ f = length-map fs unsigned ∙ s.f-size in
-    accepted (chart_of vs (unsigned_all es) (unsigned_all fs)) (rw (a, d, g) n) (in-range vs es fs t.0 (rw b n.e-even)) (passed _ t.1) (values-in vs es fs t.0)
-
-told-loaded : (r : ℕ) (x vs : List ℤ) (y z es fs : List ℕ) → told r x y z ≡ loaded vs es fs → (r ≡ 0) × ((x ≡ vs) × ((y ≡ es) × (z ≡ fs)))
+pub told-loaded : (r : ℕ) (x vs : List ℤ) (y z es fs : List ℕ) → told r x y z ≡ loaded vs es fs → (r ≡ 0) × ((x ≡ vs) × ((y ≡ es) × (z ≡ fs)))
 told-loaded zero x vs y z es fs h = (refl, (cc, (cc, cc)))
 told-loaded (suc r) x vs y z es fs h = never (cc)
-
-load-by : (v e f : ℕ) (b : Body) (vs : List ℤ) (es fs : List ℕ) → Counted v e f → ((x y z : List ℤ) → b ≡ body x y z → Sized v e f x y z) → load_body b ≡ loaded vs es fs → Accepted (chart_of vs es fs)
-load-by v e f (body x y z) vs es fs n s h =
-    let t = told-loaded (tables_refusal x y z) x vs (unsigned_all y) (unsigned_all z) es fs h in
-    rw (← t.1.0, ← t.1.1.0, ← t.1.1.1) (tables-accepted v e f x y z n (s x y z refl) t.0)
-load-by v e f (malformed m) vs es fs n s h = never (cc)
-
--- what a body that was read and checked gives: the form that callers of `load` use
-pub load-accepted : (v e f : ℕ) (s : List ℕ) (vs : List ℤ) (es fs : List ℕ) → Counted v e f → load_of v e f s ≡ loaded vs es fs → Accepted (chart_of vs es fs)
-unfolding load_of
-load-accepted v e f s vs es fs n h = load-by v e f (body_of v e f s) vs es fs n (body-sized v e f s) h
 
 -- ---- the whole file: its counts, its tables, and that they are accepted
 pub record AcceptedBytes (s : List ℕ) : Type 0 where
@@ -97,28 +77,10 @@ pub record AcceptedBytes (s : List ℕ) : Type 0 where
   pub tables : chart_in s ≡ loaded vs es fs
   pub chart : Accepted (chart_of vs es fs)
 
-pub bytes-accepted : (s : List ℕ) → chart_refusal_of s ≡ 0 → AcceptedBytes s
-unfolding chart_in
-bytes-accepted s h = by-head (head_of s) refl h
-  where
-    by-load : (v e f : ℕ) → head_of s ≡ Counts v e f → (l : Loaded) → load_of v e f s ≡ l → refusal_of l ≡ 0 → AcceptedBytes s
-    by-load v e f q (loaded vs es fs) k z =
-        record { v = v; e = e; f = f; vs = vs; es = es; fs = fs; counts = q; tables = chart-body s v e f q ∙ k; chart = load-accepted v e f s vs es fs (head-counted s v e f q) k }
-    by-load v e f q (refused n) k z = absurd (load-refusal v e f s n k z)
-
-    by-head : (d : Head) → head_of s ≡ d → refusal_of (after_head d s) ≡ 0 → AcceptedBytes s
-    by-head (Refused n) q z = absurd (head-refusal s n q z)
-    by-head (Counts v e f) q z = by-load v e f q (load_of v e f s) refl z
-
 -- the chart that every call takes from a file that it does not refuse
-same-accepted : (us vs : List ℤ) (ds es gs fs : List ℕ) → loaded us ds gs ≡ loaded vs es fs → Accepted (chart_of us ds gs) → Accepted (chart_of vs es fs)
+pub same-accepted : (us vs : List ℤ) (ds es gs fs : List ℕ) → loaded us ds gs ≡ loaded vs es fs → Accepted (chart_of us ds gs) → Accepted (chart_of vs es fs)
 same-accepted us vs ds es gs fs e a =
     let x : us ≡ vs = cc in
     let y : ds ≡ es = cc in
     let z : gs ≡ fs = cc in
     rw (← x, ← y, ← z) a
-
-pub chart-accepted : (s : List ℕ) (vs : List ℤ) (es fs : List ℕ) → chart_in s ≡ loaded vs es fs → Accepted (chart_of vs es fs)
-chart-accepted s vs es fs q =
-    let a = bytes-accepted s (ap refusal_of q) in
-    same-accepted a.vs vs a.es es a.fs fs (sym a.tables ∙ q) a.chart

@@ -1,4 +1,3 @@
 pub mod Tests
 pub mod Accepted
 pub mod Bytes
-pub mod Exactly

@@ -1,1 +1,2 @@
 // Theorems about accepted charts: everything is in specs/.
+#![tactic(auto)]

@@ -4,6 +4,5 @@ pub mod Tally
 pub mod Demand
 pub mod History
 pub mod Agree
-pub mod Demand3
 pub mod Rows
 pub mod Charged

@@ -1,9 +1,13 @@
 // The lines that `answers` prints: a function for each kind.
+#![tactic(auto)]
+
 use book::Book;
 use charge::Charged;
-use libc::STDOUT_FILENO;
 use query::{NaturalNeighbors, PositionInTriangulation};
 use weights::BarycentricWeights;
+
+// The descriptor of standard output.
+const STDOUT: i32 = 1;
 
 pub fn verdict(number: u64) {
     ending(b"verdict ", number);
@@ -216,11 +220,11 @@ pub fn broken_log() {
 }
 
 pub fn word(text: &[u8]) {
-    io::write_all(STDOUT_FILENO, text);
+    io::write_all(STDOUT, text);
 }
 
 fn natural(n: u64) {
-    io::print_decimal(STDOUT_FILENO, n);
+    io::print_decimal(STDOUT, n);
 }
 
 // The end of a line: a word and a number.

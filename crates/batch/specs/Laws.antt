@@ -19,7 +19,7 @@ use Rattle.entries.specs.Entry.{is_bend, is_splice, untidy, unknown_kind, unknow
 use Rattle.entries.specs.Ruling.{meets17, with17, UpTo17}
 use Rattle.accounts.specs.Rulings.{Queries, Known, charged, bend_ruling, entry_ruling, known}
 use Rattle.accounts.specs.Batch.{book_verdict}
-use Rattle.accounts.specs.Agree.{room}
+use Rattle.accounts.proofs.Agree.{room}
 use Rattle.batch.specs.Tables.{on_tables, Changeable}
 
 -- ---- a bend that 12 lets pass has a known method

@@ -11,7 +11,7 @@ use Rattle.entries.specs.declared.Entry.{Entry}
 use Rattle.entries.specs.Entry.{entry_width, entry_at, entries_from}
 use Rattle.accounts.specs.Rulings.{Queries}
 use Rattle.accounts.specs.Batch.{book_after, answers_from, overlay}
-use Rattle.accounts.specs.Agree.{entries-valid}
+use Rattle.accounts.proofs.Agree.{entries-valid}
 use Rattle.batch.specs.Tables.{step_of, worked}
 
 module _ (Q : Queries) (bytes : List ℕ) (es : List ℤ) (lent : List ℕ) (n : ℕ) (b₀ : Book) where

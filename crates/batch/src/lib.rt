@@ -1,4 +1,6 @@
 // A batch's entries on checked tables (01, "Charge, entry, book"): the ruling on an entry, 12 to 17, and the loop.
+#![tactic(auto)]
+
 ghost use Rattle.std.specs.Prelude.{◌≡◌, [], ◌≤◌, ◌<◌, ◌/◌, length};
 ghost use Rattle.geometry.specs.Plane.{OnGrid};
 ghost use Rattle.chart.specs.Tables.{rows};
@@ -24,7 +26,7 @@ use geometry::Place;
 use values::InterpolatedValue;
 
 // An entry's answer, and the book after it.
-#[derive(Drop)]
+#[derive(Clone, Copy)]
 pub struct Step {
     pub answer: u64,
     pub book: Book,

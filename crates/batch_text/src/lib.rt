@@ -1,4 +1,6 @@
 // The lines of a batch text (crate `case_batches`): two or three numbers, or an entry slice, with a space between any two.
+#![tactic(auto)]
+
 ghost use Rattle.std.specs.Prelude.{◌≡◌, ◌≤◌, length};
 ghost use Rattle.batch_text.specs.Batch.{both_of, two_of, opening_in, opening_of};
 
@@ -7,14 +9,14 @@ use case_text::{decimal, queries};
 use text::Field;
 
 // A room or a cut, or a line of the book.
-#[derive(Drop)]
+#[derive(Clone, Copy)]
 pub enum Two {
     Both(u64, u64),
     NoTwo,
 }
 
 // Sections, retired wear and room.
-#[derive(Drop)]
+#[derive(Clone, Copy)]
 pub enum Opening {
     Begins(u64, u64, u64),
     NoOpening,

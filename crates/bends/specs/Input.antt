@@ -1,6 +1,6 @@
 -- 01, "Program": what is handed on of the log. Assumes nothing.
 use Rattle.std.specs.Prelude.{ℕ, ◌≤◌, ◌<◌, List, [], ◌⊎◌, ◌≡◌, refl}
-use Rattle.log.specs.Log.{log_of}
+use Rattle.log_text.specs.Log.{log_of}
 use Rattle.program.specs.Program.{printed_of, refusal_printed}
 
 -- the size of a log whose reading failed

@@ -1,4 +1,6 @@
 // The queries on the body of a chart whose head has these counts: its tables are read and checked once, then asked.
+#![tactic(auto)]
+
 ghost use Rattle.std.specs.Prelude.{◌≡◌, ◌≤◌, length};
 ghost use Rattle.ranges.specs.Passed.{Counted};
 ghost use Rattle.reading.specs.Reading.{load_of, refusal_of};

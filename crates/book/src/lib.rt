@@ -1,4 +1,6 @@
 // The book: wear and bend counts of a rope's sections, and the retired wear (01, "Charge, entry, book"). It is changed here and decides nothing.
+#![tactic(auto)]
+
 ghost use Rattle.std.specs.Prelude.{◌≡◌, ◌≤◌};
 ghost use Rattle.whole.specs.First.{some};
 ghost use Rattle.book.specs.Books.{account_max, section_max, total_wear, wear_above, count_above, stray_numbers, stray_at, bad_sections, book_refusal, zero_book, fresh_book, charge_book, splice_book, ChargeFits, SpliceFits};
@@ -8,7 +10,7 @@ pub const LIMIT: u64 = 1_000_000_000_000;
 
 const SECTION_MAX: usize = 16;
 
-#[derive(Drop)]
+#[derive(Clone, Copy)]
 pub struct Book {
     pub sections: u64,
     pub wear: [u64; SECTION_MAX],
@@ -17,7 +19,7 @@ pub struct Book {
 }
 
 // A call's refusal, 0 for none, and the book that it hands back.
-#[derive(Drop)]
+#[derive(Clone, Copy)]
 pub struct Returned {
     pub refusal: u64,
     pub book: Book,

@@ -1,5 +1,6 @@
 // A list of batches, each handed the book of the one before. Lines of numbers: sections, retired wear and room of the first batch; 16 times
 // wear and bends; its entry slice. Then for each further batch: its room and how many bytes the chart lacks at its end; its entry slice.
+#![tactic(auto)]
 ghost use Rattle.std.specs.Prelude.{◌≡◌, ◌≤◌, length};
 
 use batch_text::{Opening, Two};
@@ -10,7 +11,7 @@ use case_text::queries;
 const CUT: usize = 65536;
 
 // The book after a batch, and where the text goes on; 0 where it cannot be followed.
-#[derive(Drop)]
+#[derive(Clone, Copy)]
 struct Step {
     at: usize,
     book: Book,

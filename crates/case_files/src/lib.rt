@@ -1,3 +1,5 @@
 // The texts of a case, read: the files of a folder, or parts of standard input.
+#![tactic(auto)]
+
 pub mod folder;
 pub mod packed;

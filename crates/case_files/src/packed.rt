@@ -1,13 +1,14 @@
 // A text of a packed case, from standard input.
 ghost use Rattle.std.specs.Prelude.{◌≤◌};
 
-use libc::STDIN_FILENO;
+// The descriptor of standard input.
+const STDIN: i32 = 0;
 
 // Reads a text of this size, or as much of it as `space` holds, and passes over the rest. Whether all of it was there.
 // A chart that is cut so is longer than any chart, and so is its first part.
 pub fn read_text(space: &mut [u8], size: usize) -> bool {
     let kept = case_text::least(size, space.len());
-    if io::read_full(STDIN_FILENO, &mut space[..kept]) < kept {
+    if io::read_full(STDIN, &mut space[..kept]) < kept {
         return false;
     }
     skip_text(size - kept)
@@ -35,5 +36,5 @@ fn skip_some(space: &mut [u8], left: usize) -> usize
     ensures { result ≤ left }
 {
     let n = case_text::least(left, space.len());
-    io::read_full(STDIN_FILENO, &mut space[..n])
+    io::read_full(STDIN, &mut space[..n])
 }

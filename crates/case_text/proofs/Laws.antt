@@ -2,7 +2,7 @@
 use Prim.Native.Nat.{ℕ, zero, suc, ◌+◌, ◌-◌, ◌*◌, ◌^◌, ◌<◌, ◌≤◌}
 use mathlib.Core.List.{List, [], ◌∷◌}
 use mathlib.Core.Bool.{Bool, true, false, cond}
-use mathlib.Core.Path.{◌≡◌, refl, ap, sym}
+use mathlib.Core.Path.{◌≡◌, refl, ap}
 use native.Mathlib.Omega.{arith}
 use native.Mathlib.Nat.{pow-le-pow_right, zero-add}
 use native.Mathlib.Numerals.{add-one, sub-one}
@@ -19,7 +19,7 @@ use Rattle.text.specs.Field.{value_of}
 use Rattle.text.specs.Natural.{figures}
 use Rattle.text.specs.declared.Field.{Field}
 use Rattle.text.specs.declared.Field.TheVariants.{Number, Malformed}
-use Rattle.case_text.specs.declared.decimal.Natural.TheVariants.{Whole, NoNumber}
+use Rattle.case_text.specs.declared.decimal.Natural.TheVariants.{NoNumber}
 use Rattle.case_text.specs.declared.headers.Header.TheVariants.{Broken}
 use Rattle.case_text.specs.declared.queries.Query.TheVariants.{NoQuery}
 use Rattle.case_text.specs.Decimal.{most_digits, no_magnitude, digits_make, magnitude_of, above_of, below_of, decimal_of, whole_of, natural_of}

@@ -14,7 +14,7 @@ const MOST: u64 = 9223372036854775808;
 const NONE: u64 = 18446744073709551615;
 
 // A number from 0 on that a u64 holds.
-#[derive(Drop)]
+#[derive(Clone, Copy)]
 pub enum Natural {
     Whole(u64),
     NoNumber,

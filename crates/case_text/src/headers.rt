@@ -6,7 +6,7 @@ ghost use Rattle.case_text.specs.Header.{size_of, sizes_of, header_of};
 const LIMIT: usize = 100000000;
 
 // What a header says: the sizes of a case's chart, queries, rooms, batches and log.
-#[derive(Drop)]
+#[derive(Clone, Copy)]
 pub enum Header {
     Sizes(usize, usize, usize, usize, usize),
     Broken,

@@ -1,4 +1,6 @@
 // The texts of a test case (oracle/README.md): what their lines say.
+#![tactic(auto)]
+
 ghost use Rattle.std.specs.Prelude.{◌≡◌, min};
 
 pub mod decimal;

@@ -5,7 +5,7 @@ ghost use Rattle.case_text.specs.Query.{until_of, pair_of, query_of};
 use crate::decimal;
 use text::Field;
 
-#[derive(Drop)]
+#[derive(Clone, Copy)]
 pub enum Query {
     At(i64, i64),
     NoQuery,

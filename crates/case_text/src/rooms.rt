@@ -5,7 +5,7 @@ ghost use Rattle.case_text.specs.Room.{length_of, room_of};
 use crate::decimal;
 use text::Field;
 
-#[derive(Drop)]
+#[derive(Clone, Copy)]
 pub enum Room {
     Length(u64),
     NoRoom,

@@ -1,4 +1,6 @@
 // A case's chart written back: its tables, as numbers, are lent to the writer with room for the file and with other rooms, and in part.
+#![tactic(auto)]
+
 ghost use Rattle.std.specs.Prelude.{◌≤◌};
 ghost use Rattle.ranges.specs.Passed.{Counted};
 

@@ -4,7 +4,9 @@ use crate::case;
 use case_files::packed;
 use case_text::headers;
 use case_text::headers::Header;
-use libc::STDIN_FILENO;
+
+// The descriptor of standard input.
+const STDIN: i32 = 0;
 
 // A proved loop has to end, and nothing says that the input does. So this one counts its turns down, from a number that no run uses up.
 pub fn cases(
@@ -29,7 +31,7 @@ fn next_case(
     log_space: &mut [u8],
 ) -> bool {
     let mut line = [0u8; 41];
-    let n = io::read_full(STDIN_FILENO, &mut line);
+    let n = io::read_full(STDIN, &mut line);
     if n == 0 {
         return false;
     }

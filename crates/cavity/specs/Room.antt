@@ -59,9 +59,10 @@ module _ (c : Chart) (a : Accepted c) where
   of_one : (g : ℕ) → c.face g ≡ 1 → (g ≡ c.adjacent 1 → ⊥) → firsts c.faces g ≡ false
   of_one g e other = not-among c.faces g (omega arith) (λ l at. other (at ∙ ap c.adjacent e))
 
-  pub more_edges : c.faces + 2 ≤ c.half_edges
+  -- the faces' adjacent half-edges and the two others of face 1 are all different
+  two-more : c.faces + 2 ≤ c.half_edges
   unfolding add
-  more_edges =
+  two-more =
       let f1 : c.face (c.adjacent 1) ≡ 1 = a.sound.adjacent-face 1 (omega (arith, a.counts.f-least)) in
       let l = a.sound.inner-one.0 in
       let n : ℕ = c.next (c.adjacent 1) in
@@ -75,9 +76,12 @@ module _ (c : Chart) (a : Accepted c) where
       ∙ of_one p (a.sound.prev-face (c.adjacent 1) l ∙ f1) (a.sound.prev-differs (c.adjacent 1) l)) in
       omega (arith, count-le c.half_edges (add p (add n s)), firsts-count c.faces (omega arith))
 
+  pub more_edges : c.faces + 2 ≤ c.half_edges
+  more_edges = two-more
+
   -- what the calls of `neighbors` ask of a chart and a lent slice
   pub roomy : (n : ℕ) → c.half_edges ≤ n → Roomy c n
-  roomy n l = record { faces-few = a.counts.f-most; edges_few = a.counts.e-most; faces-edges = more_edges; room_in = l }
+  roomy n l = record { faces-few = a.counts.f-most; edges_few = a.counts.e-most; faces-edges = two-more; room_in = l }
 
   -- no more faces are opened than there are
   face-most : (q : Place) (f : ℕ) → (face_neighbors c q f).opened ≤ c.faces
@@ -94,7 +98,7 @@ module _ (c : Chart) (a : Accepted c) where
   list-within q (OnVertex v) h = omega (arith, a.counts.e-least)
   list-within q (OnEdge h) k =
       ⊎_elim (λ (e : part_of_convex_hull c h ≡ true). rw e (omega (arith, a.counts.e-least)))
-      (λ (e : part_of_convex_hull c h ≡ false). rw e (omega (arith, edge-length c q a.sound.range h k.0, edge-most q h, more_edges)))
+      (λ (e : part_of_convex_hull c h ≡ false). rw e (omega (arith, edge-length c q a.sound.range h k.0, edge-most q h, two-more)))
       (cases (part_of_convex_hull c h))
-  list-within q (OnFace f) k = omega (arith, face-length c q a.sound.range f k.0, face-most q f, more_edges)
+  list-within q (OnFace f) k = omega (arith, face-length c q a.sound.range f k.0, face-most q f, two-more)
   list-within q (OutsideOfConvexHull h) k = omega arith

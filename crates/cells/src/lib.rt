@@ -1,1 +1,2 @@
 // Triangles, edges and rays over places: everything is in specs/.
+#![tactic(auto)]

@@ -3,12 +3,12 @@
 use Rattle.std.specs.Prelude.{◌≡◌, ℕ, zero, suc, ◌+◌, ◌-◌, ◌*◌, ◌/◌, ◌<◌, ◌≤◌, Bool, true, false, [], ◌∷◌, ℤ, pos, negsuc, ◌+ℤ◌, ◌-ℤ◌, ◌*ℤ◌, ◌≢◌, refl, Float}
 use Rattle.std.proofs.Common.{sym, ap, ◌∙◌, subst, true≢false, not-suc-le-zero, le_of_suc-le-suc, mul_assoc, add-mul, suc-mul, mul-le-mul_right, div-mul-le_self, div-lt_iff_lt-mul, arith, lt→ltb, ltb→lt, le→leb, leb→le, leb-false, ltb-false, le-ltb}
 use Rattle.std.proofs.Math.Nat.{lt-div-mul-add, div-eq_of_lt-le}
-use Rattle.std.proofs.Math.IntN.{-ℤ-+ℤ_cancel, +ℤ_idl}
+use Rattle.std.proofs.Math.IntN.{+ℤ_idl, -ℤ-+ℤ_cancel}
 use Rattle.std.specs.Float.{nan, inf, fin}
 use Rattle.std.specs.Float.Ieee.{up, down}
 use Rattle.std.specs.Float.Ieee.Fits.{down_pos}
 use Rattle.std.proofs.lemmas.Bool.{lt-leb}
-use Rattle.whole.specs.Poly.{Expr, var, con, _⊕_, _⊖_, _⊗_, env, agree, solve! }
+use Rattle.whole.specs.Poly.{Expr, var, con, ◌⊕◌, ◌⊖◌, ◌⊗◌, env, agree, solve! }
 use Rattle.signs.specs.Signs.{Pos, High}
 use Rattle.signs.specs.Order.{nat-pos, pos-nat, add-pos, cancel-pos}
 use Rattle.charge.specs.Order.{le-atleast, atleast-le, lt_above, above-lt, above-sub}
@@ -168,7 +168,7 @@ module _ (a d : ℕ) (p : 0 < d) where
 
   -- a charge of at most 1,000,000 is of a value below 1,000,000.5, and the reverse
   part_small : a * 2 < (charge_max * 2 + 1) * d → (a * 2 + d) / (d * 2) ≤ charge_max
-  part_small h = let k : (a * 2 + d) / (d * 2) < charge_max + 1 = div-lt_iff_lt-mul {k = d * 2} {x = a * 2 + d} {y = charge_max + 1} (omega arith) .1 (omega arith) in omega arith
+  part_small h = let k : (a * 2 + d) / (d * 2) < charge_max + 1 = (div-lt_iff_lt-mul {k = d * 2} {x = a * 2 + d} {y = charge_max + 1} (omega arith)).1 (omega arith) in omega arith
 
   small-part : (k : ℕ) → k ≤ charge_max → 2 * a < (2 * k + 1) * d → a * 2 < (charge_max * 2 + 1) * d
   small-part k l h = let m : (2 * k + 1) * d ≤ (charge_max * 2 + 1) * d = mul-le-mul_right d (omega arith) in omega arith
@@ -205,7 +205,7 @@ scale-on (fin true m e) n h a =
     (le-ltb (down e) (m * up e * 2) (omega arith), none-negative (m * up e) (down e) (down_pos e) n q)
 
 apart : (k n : ℕ) → turned_down k ≢ whole n
-apart k n p = let z : _≡_ {A = ℕ} 0 1 = cc in omega arith
+apart k n p = let z : ◌≡◌ {A = ℕ} 0 1 = cc in omega arith
 
 same_whole : (n k : ℕ) → whole n ≡ whole k → n ≡ k
 same_whole n k p = cc
@@ -231,7 +231,7 @@ pub some-charge : (v : Float) → off_scale v ≡ false → Some v
 some-charge v h = let q = on-scale v h in record { charge = rounded v; small = q.1; nearest = q.0 }
 
 pub charge-some : (v : Float) → Some v → off_scale v ≡ false
-charge-some v s = scale-on v s.charge s.small s.nearest .0
+charge-some v s = (scale-on v s.charge s.small s.nearest).0
 
 -- every finite value has a nearest whole number, whatever 16 says
 pub record Finite (v : Float) : Type 0 where

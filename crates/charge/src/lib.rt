@@ -1,9 +1,11 @@
 // What a value costs (01, "Charge, entry, book").
+#![tactic(auto)]
+
 ghost use Rattle.std.specs.Prelude.{◌≡◌};
 ghost use Rattle.charge.specs.Charging.{charge_says, charge_of};
 
 // The charge, or the number of a refusal.
-#[derive(Drop)]
+#[derive(Clone, Copy)]
 pub enum Charged {
     Whole(u64),
     Refused(u64),

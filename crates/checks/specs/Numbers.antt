@@ -13,7 +13,7 @@ use Rattle.checks.specs.Checks.{chart_refusal, tables_refusal}
 abbrev pub of_tables : List ℕ
 of_tables = 6 ∷ 7 ∷ 8 ∷ 9 ∷ 10 ∷ 11 ∷ []
 
-chart-among : (c : Chart) → among (0 ∷ of_tables) (chart_refusal c) ≡ true
+pub chart-among : (c : Chart) → among (0 ∷ of_tables) (chart_refusal c) ≡ true
 unfolding chart_refusal
 chart-among c =
     let ns : List ℕ = 0 ∷ of_tables in
@@ -21,8 +21,3 @@ chart-among c =
     (among-cond ns (some (shares_place c) c.vertices) 8 _ refl
     (among-cond ns (some (not_left c) c.faces) 9 _ refl
     (among-cond ns (some (overhung c) c.half_edges) 10 _ refl (among-cond ns (some (crowded c) c.faces) 11 0 refl refl))))
-
--- 0 where none refuses them
-pub tables-among : (vs es fs : List ℤ) → among (0 ∷ of_tables) (tables_refusal vs es fs) ≡ true
-unfolding tables_refusal
-tables-among vs es fs = among-cond (0 ∷ of_tables) (out_of_range vs es fs) 6 _ refl (chart-among (chart_of vs (unsigned_all es) (unsigned_all fs)))

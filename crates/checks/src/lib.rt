@@ -1,4 +1,6 @@
 // The refusals 6 to 11 of three tables, and their half-edges and faces taken over as unsigned numbers once 6 has let them pass.
+#![tactic(auto)]
+
 ghost use Rattle.std.specs.Prelude.{◌≡◌, ◌*◌, ◌≤◌, ◌%◌, length};
 ghost use Rattle.chart.specs.Limits.{most_vertices};
 ghost use Rattle.chart.specs.Tables.{rows, unsigned_all};

@@ -1,4 +1,6 @@
 // Refusals 8 to 10: places, turns and rim (01, "Where a call can be turned down"). The definition of 11 stands beside theirs; its code is in `across`.
+#![tactic(auto)]
+
 ghost use Rattle.std.specs.Prelude.{◌≡◌, false, ◌<◌, length, replicate};
 ghost use Rattle.whole.specs.First.{some};
 ghost use Rattle.geometry.specs.Plane.{OnGrid};

@@ -10,7 +10,7 @@ use Rattle.entries.specs.Entry.{entry_width, entry_at, entries_from, entries_of}
 use Rattle.accounts.specs.Batch.{bad_slices, outcome, batch_of}
 use Rattle.accounts.specs.Tally.{tally}
 use Rattle.accounts.specs.Demand.{Call, refusal_in, fresh, joined, OneChart, Accounted, Demand3, MadeCall, Made, calls_of, last_answers, Demand3Made}
-use Rattle.accounts.specs.Demand3.{entries-count, demand3, demand3-made}
+use Rattle.accounts.proofs.Demand3.{entries-count, demand3, demand3-made}
 use Rattle.estivolh.specs.Account.{queries}
 use Rattle.demand.specs.declared.Both.{Both}
 

@@ -1,4 +1,5 @@
 // Demand 3 of the public calls: specs/Demand.antt. Below, a function that makes such calls; what it promises is read off the theorem.
+#![tactic(auto)]
 ghost use Rattle.std.specs.Prelude.{◌≤◌, length};
 ghost use Rattle.book.specs.Books.{section_max};
 ghost use Rattle.demand.specs.Demand.{Divisible, Alike};
@@ -7,7 +8,7 @@ use book::Book;
 use entries::ENTRY_WIDTH;
 
 // The books of a log worked as one batch, and as two.
-#[derive(Drop)]
+#[derive(Clone, Copy)]
 pub struct Both {
     pub whole: Book,
     pub divided: Book,

@@ -1,4 +1,5 @@
 // An entry of the log, its row 12, and what becomes of it (01, "Charge, entry, book").
+#![tactic(auto)]
 ghost use Rattle.std.specs.Prelude.{◌≡◌, ◌≤◌, ◌<◌, ◌+◌, ◌^◌, length};
 ghost use Rattle.entries.specs.Entry.{entry_width, entry_at, untidy, unknown_kind, unknown, place_in};
 ghost use Rattle.entries.specs.Ruling.{UpTo17, answer_of, meets17};
@@ -11,7 +12,7 @@ pub const ENTRY_WIDTH: usize = 5;
 
 const REFUSED_ENTRY: u64 = 2_000_000;
 
-#[derive(Drop)]
+#[derive(Clone, Copy)]
 pub struct Entry {
     pub kind: i64,
     pub section: i64,
@@ -21,7 +22,7 @@ pub struct Entry {
 }
 
 // A bend of a section with its charge, a splice of a section, or the number that refuses the entry.
-#[derive(Drop)]
+#[derive(Clone, Copy)]
 pub enum Ruling {
     Bend(usize, u64),
     Splice(usize),

@@ -1,4 +1,6 @@
 // The public calls of Estivolh. Each that needs a chart takes its bytes, or to write it back its tables, and checks them; none asks anything of its caller.
+#![tactic(auto)]
+
 ghost use Rattle.std.specs.Prelude.{◌≡◌, ◌≤◌, ◌/◌, length};
 ghost use Rattle.ranges.specs.Passed.{Counted};
 ghost use Rattle.reading.specs.Reading.{load_of, chart_refusal_of};

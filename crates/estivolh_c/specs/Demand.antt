@@ -12,7 +12,7 @@ use Rattle.entries.specs.Entry.{entries_of}
 use Rattle.accounts.specs.Batch.{book_change, book_verdict, book_after, batch_refusal, Outcome, outcome, by_refusal, batch_of}
 use Rattle.accounts.specs.Tally.{tally}
 use Rattle.accounts.specs.Demand.{Call, fresh, joined, OneChart, MadeCall, Made, calls_of, last_book, last_answers, Demand3Made}
-use Rattle.accounts.specs.Demand3.{demand3-made}
+use Rattle.accounts.proofs.Demand3.{demand3-made}
 use Rattle.estivolh.specs.Account.{queries}
 use Rattle.slices.specs.Lent.{kept, Left, left, enough}
 use Rattle.slices.specs.Books.{book_numbers, book_at, numbers_of, numbers-long, read_back}

@@ -1,1 +1,2 @@
 // Euler's inequality for accepted charts: everything is in specs/.
+#![tactic(auto)]

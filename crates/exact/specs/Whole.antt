@@ -35,7 +35,7 @@ of-int (pos n) = record { sign = false; size = n; float = refl; int = refl }
 of-int (negsuc n) = record { sign = true; size = suc n; float = refl; int = refl }
 
 -- nothing was rounded
-value : {x : Float} {z : ℤ} (w : Whole x z) → Within exact_max z → HasValue x w.sign w.size 1
+pub value : {x : Float} {z : ℤ} (w : Whole x z) → Within exact_max z → HasValue x w.sign w.size 1
 value w h =
     let k : w.size ≤ exact_max = subst (λ (n : ℕ). n ≤ exact_max) (ap nat_abs w.int ∙ abs-signed w.sign w.size) h.abs in
     subst (λ (y : Float). HasValue y w.sign w.size 1) (sym w.float) (round_whole binary64 w.sign w.size k)
@@ -56,7 +56,7 @@ abbrev Plain : {x : Float} {z : ℤ} → Whole x z → Type 0
 Plain w = w.sign ≡ true → 0 < w.size
 
 -- such a float is the one that the whole number is taken as
-plain-is : {x : Float} {z : ℤ} (w : Whole x z) → Plain w → x ≡ real_of z
+pub plain-is : {x : Float} {z : ℤ} (w : Whole x z) → Plain w → x ≡ real_of z
 unfolding of_int
 plain-is w h = w.float ∙ go w.sign w.size h ∙ ap (λ (z : ℤ). real_of z) (sym w.int)
   where
@@ -66,13 +66,13 @@ plain-is w h = w.float ∙ go w.sign w.size h ∙ ap (λ (z : ℤ). real_of z) (
     go true (suc n) h = refl
 
 -- and a whole number is taken as no other
-of-int-plain : (z : ℤ) → Plain (of-int z)
+pub of-int-plain : (z : ℤ) → Plain (of-int z)
 unfolding of-int
 of-int-plain (pos n) e = absurd (false≢true e)
 of-int-plain (negsuc n) e = omega arith
 
 -- ±a + ±b: a zero is -0 only where both signs are minus, so the sum is not -0 where ±a is not
-sum-whole : (s : Bool) (a : ℕ) (t : Bool) (b : ℕ) → (w : Whole (sum binary64 s a t b 1) (signed s a +ℤ signed t b)) × ((s ≡ true → 0 < a) → Plain w)
+pub sum-whole : (s : Bool) (a : ℕ) (t : Bool) (b : ℕ) → (w : Whole (sum binary64 s a t b 1) (signed s a +ℤ signed t b)) × ((s ≡ true → 0 < a) → Plain w)
 unfolding sum
 sum-whole false a false b = (record { sign = false; size = a + b; float = refl; int = refl }, λ h e. absurd (false≢true e))
 sum-whole true a true b =
@@ -101,21 +101,6 @@ sum-whole true a false b = go (dec_lt a b) (dec_lt b a)
         let m : a ≤ b = omega arith in
         let z : b - a ≡ a - b = omega arith in
         (record { sign = false; size = a - b; float = rw (le-ltb a b l, le-ltb b a m); int = turn ∙ minus-le b a m ∙ ap pos z }, λ u e. absurd (false≢true e))
-
--- a difference
-pub sub-exact : {x y : Float} {a b : ℤ} → Whole x a → Whole y b → Within exact_max a → Within exact_max b → Whole (x -f y) (a -ℤ b)
-sub-exact {x} {y} v w p q =
-    rw (sub_val binary64 x y v.sign w.sign v.size w.size (value v p) (value w q), v.int, w.int, neg-signed)
-    (sum-whole v.sign v.size (not w.sign) w.size).0
-
--- a sum that starts from a whole number taken as f64 is one again, and never -0
-pub plus-exact : (z : ℤ) {y : Float} {k : ℤ} → Whole y k → Within exact_max z → Within exact_max k → real_of z +f y ≡ real_of (z +ℤ k)
-plus-exact z {y} {k} w p q =
-    let v = of-int z in
-    let r = sum-whole v.sign v.size w.sign w.size in
-    add-val binary64 (real_of z) y v.sign w.sign v.size w.size (value v p) (value w q)
-    ∙ plain-is r.0 (r.1 (of-int-plain z))
-    ∙ ap (λ (i : ℤ). real_of i) (ap (λ (i : ℤ). i +ℤ signed w.sign w.size) (sym v.int) ∙ ap (λ (i : ℤ). z +ℤ i) (sym w.int))
 
 -- ---- comparisons
 -- `x < y`

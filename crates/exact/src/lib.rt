@@ -1,1 +1,2 @@
 // Whole numbers in f64: laws alone, everything is in specs/.
+#![tactic(auto)]

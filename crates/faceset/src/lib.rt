@@ -1,8 +1,10 @@
 // A set of faces as bits of four 64-bit words, counted by their ones (01, "Rust idioms"): face f is bit f % 64 of word f / 64.
+#![tactic(auto)]
+
 ghost use Rattle.std.specs.Prelude.{◌≡◌, ◌<◌};
 ghost use Rattle.faceset.specs.Set.{has, add, none, count_below};
 
-#[derive(Drop)]
+#[derive(Clone, Copy)]
 pub struct FaceSet {
     pub words: [u64; 4],
 }

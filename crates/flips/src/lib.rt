@@ -1,4 +1,6 @@
 // The search for natural neighbours (01, "Weights"; `inspect_flips`).
+#![tactic(auto)]
+
 ghost use Rattle.std.specs.Prelude.{◌≡◌, ◌<◌, ◌≤◌, length};
 ghost use Rattle.faceset.specs.Set.{has};
 ghost use Rattle.geometry.specs.Plane.{OnGrid};
@@ -82,7 +84,7 @@ pub fn behind_prev(vertices: &[i64], edges: &[usize], faces: &[usize], h: usize)
 }
 
 // The faces opened, and how many edges stand in the slice.
-#[derive(Drop)]
+#[derive(Clone, Copy)]
 pub struct Search {
     pub opened: FaceSet,
     pub listed: usize,

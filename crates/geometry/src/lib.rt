@@ -1,4 +1,6 @@
 // Side and circle, exact in 64 bits on the whole grid (01, "Side and circle"; math.rs).
+#![tactic(auto)]
+
 ghost use Rattle.std.specs.Prelude.{◌≡◌, pos, ◌-ℤ◌, ◌*ℤ◌};
 ghost use Rattle.std.specs.Int.Signed.{lt_z};
 ghost use Rattle.whole.specs.Bound.{Within};
@@ -10,7 +12,7 @@ pub const GRID: i64 = 10000;
 const LOW: i64 = -GRID;
 
 // A place of the plane, or a vector between two places, in whole numbers.
-#[derive(Drop)]
+#[derive(Clone, Copy)]
 pub struct Place {
     pub x: i64,
     pub y: i64,

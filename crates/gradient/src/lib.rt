@@ -1,4 +1,6 @@
 // The gradient at a vertex (01, "Gradient and value"; `estimate_gradient`): normals of the triangles about it, summed, and one division each.
+#![tactic(auto)]
+
 ghost use Rattle.std.specs.Prelude.{◌≡◌, ◌*◌, ◌≤◌, ◌<◌, length};
 ghost use Rattle.chart.specs.Tables.{rows};
 ghost use Rattle.chart.specs.Chart.{chart_of, InRange};
@@ -7,14 +9,14 @@ ghost use Rattle.gradient.specs.Gradient.{Valued, spot_of, end_spot, normal_of, 
 ghost use Rattle.gradient.specs.Estimated.{Estimated};
 
 // A place with a vertex's value as its height, or a normal.
-#[derive(Drop)]
+#[derive(Clone, Copy)]
 pub struct Vector3 {
     pub x: f64,
     pub y: f64,
     pub z: f64,
 }
 
-#[derive(Drop)]
+#[derive(Clone, Copy)]
 pub struct Gradient {
     pub x: f64,
     pub y: f64,

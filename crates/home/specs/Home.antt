@@ -507,8 +507,11 @@ module _ (c : Chart) (snd : Sound c) (q : Place) where
   vertex-inside v h a l o =
       subst (λ (p : Place). Low (side_at c p h)) (place-eq (c.place v) q a.x-is a.y-is) (not-pos (snd.hull h v (l, o) a.there))
 
+  pub edge-low : (k h : ℕ) → OnEdge c q k → h < c.half_edges → c.face h ≡ 0 → Low (side_at c q h)
+  edge-low k h e l o = subst Low (sd-side h l) (open-low k (open_of k e) h l o)
+
   pub edge-inside : (k h : ℕ) → OnEdge c q k → h < c.half_edges → c.face h ≡ 0 → Low (side_at c q h)
-  edge-inside k h e l o = subst Low (sd-side h l) (open-low k (open_of k e) h l o)
+  edge-inside = edge-low
 
   pub face-inside : (f h : ℕ) → InFace c q f → h < c.half_edges → c.face h ≡ 0 → Low (side_at c q h)
   face-inside f h e l o = subst Low (sd-side h l) (neg_low (held-strict (c.adjacent f) (held_of f e) h l o))

@@ -4,4 +4,3 @@ pub mod Crossing
 pub mod Count
 pub mod Home
 pub mod Located
-pub mod Needed

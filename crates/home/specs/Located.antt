@@ -97,7 +97,7 @@ module _ (c : Chart) (q : Place) (snd : Sound c) where
 
   pub homes-inside : OnSomeVertex c q ⊎ (OnSomeEdge c q ⊎ InSomeFace c q) → InsideRim c q
   homes-inside (inl r) = by-low (λ h l o. Hm.vertex-inside c snd q r.0 h (vertex-to c q r.0 r.1 r.2) l o)
-  homes-inside (inr (inl r)) = by-low (λ h l o. Hm.edge-inside c snd q r.0 h (edge_to c q r.0 r.1 (and-true (even r.0) (on_edge c q r.0) r.2).1) l o)
+  homes-inside (inr (inl r)) = by-low (λ h l o. Hm.edge-low c snd q r.0 h (edge_to c q r.0 r.1 (and-true (even r.0) (on_edge c q r.0) r.2).1) l o)
   homes-inside (inr (inr r)) = by-low (λ h l o. Hm.face-inside c snd q r.0 h (face-to c q r.0 r.1 r.2) l o)
 
   -- ---- so a load is outside exactly where it is strictly left of an outer half-edge

@@ -1,1 +1,2 @@
 // Every load inside the rim has a home: everything is in specs/.
+#![tactic(auto)]

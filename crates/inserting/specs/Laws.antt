@@ -13,7 +13,7 @@ use Rattle.reading.specs.Text.{chart_text}
 use Rattle.reading.specs.RoundTrip.{text-length}
 use Rattle.writing.specs.Writing.{Saved, numbers_refusal, room_refusal, saved_by, write_of}
 use Rattle.writing.specs.Writing.Written.{turned_down}
-use Rattle.writing.specs.Laws.{refused-by, written-by}
+use Rattle.writing.proofs.Laws.{refused-by, written-by}
 use Rattle.written.specs.WrittenBack.{text-read}
 use Rattle.rewire.specs.Tables.{Natural, out_cell}
 use Rattle.sites.specs.Insertion.{insert_refusal, Extended}

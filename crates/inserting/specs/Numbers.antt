@@ -16,10 +16,11 @@ use Rattle.ranges.specs.Ranges.{not_below, cell, bad_vertex, bad_half_edge, bad_
 use Rattle.ranges.specs.Passed.{counts-pass}
 use Rattle.checks.specs.Checks.{chart_refusal, tables_refusal}
 use Rattle.accepted.specs.Accepted.{Accepted}
-use Rattle.accepted.specs.Exactly.{none-refuses}
+use Rattle.accepted.proofs.Exactly.{none-refuses}
 use Rattle.rewire.specs.Tables.{Natural, out_cell}
 use Rattle.writing.specs.Writing.{numbers_refusal}
-use Rattle.writing.specs.Laws.{even-rows, later-refusal, uneven-none, counts-in, edge-rows}
+use Rattle.writing.specs.Laws.{even-rows, edge-rows}
+use Rattle.writing.proofs.Laws.{later-refusal, uneven-none, counts-in}
 
 -- each number of a table is below the most half-edges of a chart, so that it has a sign's room
 pub record Small (t : List ℕ) : Type 0 where

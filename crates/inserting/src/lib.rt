@@ -1,4 +1,6 @@
 // A new bench test: the old chart's text is read, a vertex is put into its tables, and the text of the new chart is written.
+#![tactic(auto)]
+
 ghost use Rattle.std.specs.Prelude.{map, ◌≡◌, pos, length};
 ghost use Rattle.ranges.specs.Passed.{Counted};
 ghost use Rattle.reading.specs.Reading.{load_of};

@@ -21,7 +21,7 @@ use Rattle.reading.specs.Reading.{Body, body_of, load_body, load_of}
 use Rattle.reading.specs.Reading.Body.{body, malformed}
 use Rattle.reading.specs.Laws.{told-zero, told-other}
 use Rattle.accepted.specs.Accepted.{Accepted}
-use Rattle.accepted.specs.Bytes.{load-accepted}
+use Rattle.accepted.proofs.Bytes.{load-accepted}
 use Rattle.euler.specs.Euler.{half-edges-few, faces-few}
 use Rattle.rewire.specs.Tables.{Natural, out_cell, KeepsOuts}
 use Rattle.rewire.specs.Grown.{Room, old_of}

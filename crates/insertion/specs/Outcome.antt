@@ -15,7 +15,8 @@ use Rattle.sites.specs.declared.Site.TheVariants.{Inside, Across, Nowhere}
 use Rattle.sites.specs.Insertion.{no_site}
 use Rattle.sites.specs.Askable.{Askable}
 use Rattle.sites.specs.Site.{site_at, without, no-site, FaceSite, EdgeSite}
-use Rattle.sites.specs.Joined.{Joined, face-growing, face-range, face-joined, edge-growing, edge-range, edge-joined}
+use Rattle.sites.specs.Joined.{Joined}
+use Rattle.sites.proofs.Joined.{face-growing, face-range, face-joined, edge-growing, edge-range, edge-joined}
 
 -- 26 or 0, and where it is 0 the chart that was asked for
 pub record Outcome (c : Chart) (q : Place) (z : ℤ) (r : ℕ) (d : Chart) : Type 0 where

@@ -1,4 +1,6 @@
 // A new vertex put into a chart's tables: joined to the corners around it, then edges are flipped about it.
+#![tactic(auto)]
+
 ghost use Rattle.std.specs.Prelude.{◌≡◌, length};
 ghost use Rattle.chart.specs.Chart.{chart_of};
 ghost use Rattle.accepted.specs.Accepted.{Accepted};

@@ -1,4 +1,5 @@
 // Values from vertices and their weights (01, "Gradient and value"; `interpolate`, `interpolate_gradient` with flatness 1).
+#![tactic(auto)]
 ghost use Rattle.std.specs.Prelude.{◌≡◌, ◌≤◌, ◌<◌, length};
 ghost use Rattle.geometry.specs.Plane.{OnGrid};
 ghost use Rattle.chart.specs.Limits.{most_half_edges};
@@ -12,7 +13,7 @@ use geometry::Place;
 use points::Point2;
 
 // The sums of `interpolate_gradient`.
-#[derive(Drop)]
+#[derive(Clone, Copy)]
 pub struct Blend {
     pub alpha: f64,
     pub beta: f64,

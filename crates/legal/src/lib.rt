@@ -1,4 +1,6 @@
 // Edges are flipped about a new vertex until the circle rule is met (`legalize_edge`).
+#![tactic(auto)]
+
 ghost use Rattle.std.specs.Prelude.{◌≡◌, ◌<◌};
 ghost use Rattle.whole.specs.First.{first};
 ghost use Rattle.chart.specs.Tables.{rows};

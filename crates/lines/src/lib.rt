@@ -1,5 +1,7 @@
 // The lines of a chart's edges, worked out once for all loads that are located on it: the side of a load then costs two products, and no
 // place is looked up (01, "Side and circle").
+#![tactic(auto)]
+
 ghost use Rattle.std.specs.Prelude.{◌≡◌, ◌*◌, ◌/◌, ◌≤◌, ◌<◌, ◌-ℤ◌, length};
 ghost use Rattle.whole.specs.Bound.{Within};
 ghost use Rattle.geometry.specs.Plane.{OnGrid, area_max, side};

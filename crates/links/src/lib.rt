@@ -1,4 +1,6 @@
 // Refusal 7: the links of the tables (01, "Links"). Each clause is a function of the whole chart.
+#![tactic(auto)]
+
 ghost use Rattle.std.specs.Prelude.{◌≡◌, ◌<◌, ◌≤◌, false, length, replicate};
 ghost use Rattle.whole.specs.First.{some};
 ghost use Rattle.chart.specs.Limits.{most_vertices};

@@ -6,7 +6,7 @@ use Rattle.std.proofs.Math.ListN.{get_or-append}
 use Rattle.whole.specs.Among.{among}
 use Rattle.whole.specs.Bools.{never}
 use Rattle.reading.specs.Reading.{chart_refusal_of}
-use Rattle.accepted.specs.Bytes.{bytes-accepted}
+use Rattle.accepted.proofs.Bytes.{bytes-accepted}
 use Rattle.book.specs.declared.Book.{Book}
 use Rattle.book.specs.declared.Returned.{Returned}
 use Rattle.book.specs.Books.{total_wear, count_of, bad_book}
@@ -15,10 +15,10 @@ use Rattle.entries.specs.declared.Ruling.TheVariants.{Bend, Splice, Refused}
 use Rattle.entries.specs.Entry.{entry_width, entry_at, entries_from, entries_of}
 use Rattle.entries.specs.Ruling.{refused_entry, answer_of}
 use Rattle.accounts.specs.Batch.{book_change, book_verdict, answers_from, overlay, bad_slices, batch_refusal, Outcome, outcome, by_refusal, batch_of}
-use Rattle.accounts.specs.Demand3.{entries-count, answers-length}
+use Rattle.accounts.proofs.Demand3.{entries-count, answers-length}
 use Rattle.estivolh.specs.Account.{queries}
 use Rattle.refusals.specs.Entries.{of_entry, OnlyBy}
-use Rattle.refusals.specs.Refusals.{entry-refused}
+use Rattle.refusals.proofs.Refusals.{entry-refused}
 
 -- accepted, or refused with one of the five
 abbrev pub AcceptedOrOneOf : ℕ → Type 0

@@ -12,7 +12,7 @@ use Rattle.checks.specs.Checks.{Loaded}
 use Rattle.sound.specs.Sound.{Sound}
 use Rattle.checks.specs.Checks.Loaded.{loaded}
 use Rattle.reading.specs.Reading.{chart_in}
-use Rattle.accepted.specs.Bytes.{chart-accepted}
+use Rattle.accepted.proofs.Bytes.{chart-accepted}
 use Rattle.home.specs.Located.{left_of_rim}
 use Rattle.values.specs.Value.{Answer, method_of, located_value, value-located}
 use Rattle.values.specs.Value.Answer.{value}
@@ -27,7 +27,7 @@ use Rattle.accounts.specs.Rulings.{charged, bend_ruling, entry_ruling}
 use Rattle.estivolh.specs.Account.{queries}
 use Rattle.batch.specs.Laws.{known_method}
 use Rattle.refusals.specs.Entries.{of_entry, OnlyBy, either}
-use Rattle.refusals.specs.Refusals.{entry-refused}
+use Rattle.refusals.proofs.Refusals.{entry-refused}
 use Rattle.loads.specs.Calls.{value-inside, value-outside}
 
 -- a bend, by any method

@@ -11,7 +11,7 @@ use Rattle.chart.specs.Chart.{Chart, chart_of}
 use Rattle.checks.specs.Checks.Loaded.{loaded}
 use Rattle.sound.specs.Sound.{Sound}
 use Rattle.reading.specs.Reading.{chart_in}
-use Rattle.accepted.specs.Bytes.{chart-accepted}
+use Rattle.accepted.proofs.Bytes.{chart-accepted}
 use Rattle.locate.specs.declared.Location.{Location}
 use Rattle.locate.specs.declared.Location.TheVariants.{OnVertex, OnEdge, OnFace, OutsideOfConvexHull}
 use Rattle.locate.specs.Location.{left_of_outer, location_of}

@@ -6,7 +6,7 @@ use Rattle.geometry.specs.declared.Place.{Place}
 use Rattle.chart.specs.Chart.{Chart, chart_of}
 use Rattle.checks.specs.Checks.Loaded.{loaded}
 use Rattle.reading.specs.Reading.{chart_in}
-use Rattle.accepted.specs.Bytes.{chart-accepted}
+use Rattle.accepted.proofs.Bytes.{chart-accepted}
 use Rattle.locate.specs.declared.Location.TheVariants.{OnFace, OutsideOfConvexHull}
 use Rattle.locate.specs.Location.{in_face, left_of_outer, location_of}
 use Rattle.home.specs.Located.{left_of_rim, InsideRim, Housed, housed, homes-inside, outside-left, left-outside, face-location, OnSomeVertex, OnSomeEdge, InSomeFace}

@@ -15,11 +15,12 @@ use Rattle.reading.specs.Reading.{file_length, chart_in}
 use Rattle.writing.specs.Writing.{Saved, room_refusal, saved_by}
 use Rattle.writing.specs.Writing.Written.{wrote, turned_down}
 use Rattle.accepted.specs.Accepted.{Accepted}
-use Rattle.accepted.specs.Bytes.{chart-accepted}
+use Rattle.accepted.proofs.Bytes.{chart-accepted}
 use Rattle.locate.specs.declared.Location.{Location}
 use Rattle.locate.specs.declared.Location.TheVariants.{OnVertex, OnEdge, OnFace, OutsideOfConvexHull}
 use Rattle.locate.specs.Location.{even, on_edge, location_of}
-use Rattle.locate.specs.Laws.{Holds, located}
+use Rattle.locate.specs.Laws.{Holds}
+use Rattle.locate.proofs.Laws.{located}
 use Rattle.home.specs.Located.{face-location, edge-location}
 use Rattle.neighbors.specs.Neighbors.{part_of_convex_hull}
 use Rattle.neighbourhood.specs.Neighbourhood.{Amid}

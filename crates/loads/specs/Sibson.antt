@@ -14,12 +14,13 @@ use Rattle.reading.specs.declared.Head.{Head}
 use Rattle.reading.specs.declared.Head.TheVariants as H
 use Rattle.reading.specs.Reading.{head_of, load_of, chart_in}
 use Rattle.reading.specs.Laws.{chart-body}
-use Rattle.accepted.specs.Bytes.{chart-accepted}
+use Rattle.accepted.proofs.Bytes.{chart-accepted}
 use Rattle.locate.specs.declared.Location.{Location}
 use Rattle.locate.specs.Location.{location_of}
 use Rattle.neighbors.specs.Neighbors.{search_of, neighbors_of}
-use Rattle.neighbourhood.specs.Neighbourhood.{Amid, Neighbourhood, neighbourhood}
-use Rattle.neighbourhood.specs.Turns as T
+use Rattle.neighbourhood.specs.Neighbourhood.{Amid, Neighbourhood}
+use Rattle.neighbourhood.proofs.Neighbourhood.{neighbourhood}
+use Rattle.neighbourhood.proofs.Turns as T
 use Rattle.neighbourhood.specs.Turns.{Unbroken}
 use Rattle.natural.specs.Natural.{settled}
 use Rattle.values.specs.Located.{place_refusal}

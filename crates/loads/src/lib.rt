@@ -1,1 +1,2 @@
 // What holds of every load on an accepted chart: everything is in specs/.
+#![tactic(auto)]

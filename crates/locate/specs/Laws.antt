@@ -15,19 +15,9 @@ Holds c q (OnEdge h) = (h < c.half_edges) × (on_even_edge c q h ≡ true)
 Holds c q (OnFace f) = (f < c.faces) × (in_face c q f ≡ true)
 Holds c q (OutsideOfConvexHull h) = Unit {0}
 
-lowest-is : (P : Location → Type 0) (p : ℕ → Bool) (n : ℕ) (answer : ℕ → Location) (others : Location) → ((k : ℕ) → (k < n) × (p k ≡ true) → P (answer k)) → P others → P (lowest p n answer others)
+pub lowest-is : (P : Location → Type 0) (p : ℕ → Bool) (n : ℕ) (answer : ℕ → Location) (others : Location) → ((k : ℕ) → (k < n) × (p k ≡ true) → P (answer k)) → P others → P (lowest p n answer others)
 lowest-is P p n answer others hit miss = choose (some p n) refl
   where
     choose : (b : Bool) → some p n ≡ b → P (lowest p n answer others)
     choose true e = rw e (let l = ltb-true (first p n) n e in hit (first p n) (l, first_found p n l))
     choose false e = rw e miss
-
-passes : (c : Chart) (q : Place) → Holds c q (location_of c q)
-unfolding location_of
-passes c q =
-    lowest-is (Holds c q) (at_vertex c q) c.vertices OnVertex _ (λ v h. h)
-    (lowest-is (Holds c q) (on_even_edge c q) c.half_edges OnEdge _ (λ e h. h)
-    (lowest-is (Holds c q) (in_face c q) c.faces OnFace _ (λ f h. h) tt))
-
-pub located : (c : Chart) (q : Place) (l : Location) → l ≡ location_of c q → Holds c q l
-located c q l e = subst (Holds c q) (sym e) (passes c q)

@@ -1,5 +1,7 @@
 // Where a load lies on a chart, by scans from the front (01, "Location"; the Rust's `locate`). The scan of the edges keeps what it finds of
 // each half-edge, and the scans after it look that up.
+#![tactic(auto)]
+
 ghost use Rattle.std.specs.Prelude.{◌≡◌, ◌*◌, ◌/◌, ◌≤◌, ◌<◌, length};
 ghost use Rattle.whole.specs.First.{first};
 ghost use Rattle.geometry.specs.Plane.{OnGrid, side};
@@ -13,7 +15,7 @@ ghost use Rattle.locate.specs.Sides.{Sides};
 use geometry::Place;
 
 // The Rust's `PositionInTriangulation`, without its `NoTriangulation`: a load on a chart has a place or is outside.
-#[derive(Drop)]
+#[derive(Clone, Copy)]
 pub enum Location {
     OnVertex(usize),
     OnEdge(usize),

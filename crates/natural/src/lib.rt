@@ -1,4 +1,6 @@
 // Natural neighbour weights from the list of natural neighbour edges (01, "Weights"; `get_natural_neighbor_weights`).
+#![tactic(auto)]
+
 ghost use Rattle.std.specs.Prelude.{◌≡◌, ◌++◌, map, ℕ, ◌≤◌, ◌<◌, length, take, drop, get_or};
 ghost use Rattle.geometry.specs.Plane.{OnGrid};
 ghost use Rattle.chart.specs.Limits.{most_half_edges};

@@ -13,7 +13,8 @@ use Rattle.chart.specs.Chart.{Chart, InRange, partner, partner-twice, partner-in
 use Rattle.delaunay.specs.Delaunay.{in_circle, crowded}
 use Rattle.across.specs.Across.{presses, pressed}
 use Rattle.sound.specs.Tests.{Passed, above_zero}
-use Rattle.sound.specs.Sound.{Sound, sound}
+use Rattle.sound.specs.Sound.{Sound}
+use Rattle.sound.proofs.Sound.{sound}
 use Rattle.signs.specs.Signs.{Pos, Low}
 use Rattle.signs.specs.Order.{test-pos, pos-test, test_low}
 use Rattle.cells.specs.Window.{circle-across}

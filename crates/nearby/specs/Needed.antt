@@ -99,9 +99,12 @@ folded-row : Row folded false false true false false true
 unfolding folded from off_grid cross_of norm2_of side lifted circle not_below bad_vertex bad_half_edge bad_face out_of_range linked links_broken
 folded-row = record { range = refl; even = refl; links = refl; places = refl; turns = refl; rim = refl; edges = refl; circles = refl }
 
-hollow_row : Row hollow false false false true false true
+hollow-is : Row hollow false false false true false true
 unfolding hollow from off_grid cross_of norm2_of side lifted circle not_below bad_vertex bad_half_edge bad_face out_of_range linked links_broken
-hollow_row = record { range = refl; even = refl; links = refl; places = refl; turns = refl; rim = refl; edges = refl; circles = refl }
+hollow-is = record { range = refl; even = refl; links = refl; places = refl; turns = refl; rim = refl; edges = refl; circles = refl }
+
+hollow_row : Row hollow false false false true false true
+hollow_row = hollow-is
 
 far-row : Row far false false false false true true
 unfolding far from off_grid cross_of norm2_of side lifted circle not_below bad_vertex bad_half_edge bad_face out_of_range linked links_broken
@@ -168,5 +171,5 @@ needed =
       seven = λ f. unseen sheets-row (f (chart sheets) (ranged sheets-row) sheets-row.places sheets-row.turns sheets-row.rim);
       eight = λ f. unseen copies-row (f (chart copies) (ranged copies-row) copies-row.links copies-row.turns copies-row.rim);
       nine = λ f. unseen folded-row (f (chart folded) (ranged folded-row) folded-row.links folded-row.places folded-row.rim);
-      ten = λ f. unseen hollow_row (f (chart hollow) (ranged hollow_row) hollow_row.links hollow_row.places hollow_row.turns);
+      ten = λ f. unseen hollow-is (f (chart hollow) (ranged hollow-is) hollow-is.links hollow-is.places hollow-is.turns);
     }

@@ -1,4 +1,6 @@
 // The edges of the natural neighbours of a load, by the kind of its location (01, "Weights"; `get_natural_neighbor_edges`).
+#![tactic(auto)]
+
 ghost use Rattle.std.specs.Prelude.{◌≡◌, [], ◌∷◌, ◌++◌, reverse, ◌<◌, ◌≤◌, length, take, drop};
 ghost use Rattle.faceset.specs.Set.{has, count_below};
 ghost use Rattle.geometry.specs.Plane.{OnGrid};
@@ -15,7 +17,7 @@ use geometry::Place;
 use locate::Location;
 
 // How many edges were listed, and how many faces opened.
-#[derive(Drop)]
+#[derive(Clone, Copy)]
 pub struct Counts {
     pub count: usize,
     pub opened: usize,

@@ -4,7 +4,5 @@ pub mod Seat
 pub mod Opening
 pub mod Moment
 pub mod Simple
-pub mod Whole
 pub mod Neighbourhood
 pub mod Turns
-pub mod Few

@@ -2,7 +2,6 @@
 use Rattle.std.specs.Prelude.{◌≡◌, refl, ◌⊎◌, ℕ, ◌<◌, ℤ}
 use Rattle.std.proofs.Common.{sym, subst, ap, ◌∙◌, inl, inr}
 use Rattle.geometry.specs.declared.Place.{Place}
-use Rattle.geometry.specs.Plane.{circle}
 use Rattle.chart.specs.Chart.{Chart, partner}
 use Rattle.sound.specs.Sound.{Sound}
 use Rattle.signs.specs.Signs.{Pos, Neg, Low, High}

@@ -3,27 +3,21 @@
 use Rattle.std.specs.Prelude.{◌≡◌, ◌⊎◌, Bool, true, false, ℕ, ◌+◌, ◌<◌, ◌≤◌, eqb, ℤ}
 use Rattle.std.proofs.Math.Path.{refl, subst}
 use Rattle.std.proofs.Common.{sym, inl, inr, arith, eqb-true}
-use mathlib.Core.List.{List, [], ◌∷◌, ◌++◌, map, reverse}
+use mathlib.Core.List.{List, [], ◌∷◌, map, reverse}
 use Rattle.faceset.specs.Set.{one}
 use Rattle.geometry.specs.declared.Place.{Place}
 use Rattle.geometry.specs.Plane.{side}
-use Rattle.chart.specs.Chart.{Chart, partner, partner-in}
+use Rattle.chart.specs.Chart.{Chart, partner}
 use Rattle.sound.specs.Sound.{Sound, Inner}
-use Rattle.flips.specs.Search.{Found, should_flip, opening}
-use Rattle.neighbors.specs.Counting.{Leads, All}
-use Rattle.neighbors.specs.Counting.Leads.{stays, opens, lists}
+use Rattle.neighbors.specs.Counting.{All}
 use Rattle.signs.specs.Signs.{ev, holds, tests, Pos, Zero, Low, High}
 use Rattle.signs.specs.Order.{low-or-pos, low-high}
 use Rattle.cells.specs.Fan.{facing, Faced, faced, facing-of, strict-pair, flat-pair, split-first, split-second, own-end}
 use Rattle.nearby.specs.Chart as Ch
 use Rattle.nearby.specs.Rim as R
-use Rattle.neighbourhood.specs.Rings.{how_many, times, many-append, many-reverse, many-map, many-less}
+use Rattle.neighbourhood.specs.Rings.{how_many, times, many-reverse, many-map, many-less}
 use Rattle.nearby.specs.Windows as Wn
 use Rattle.neighbourhood.specs.Seat.{Seat}
-use Rattle.neighbourhood.specs.Opening as M
-use Rattle.neighbourhood.specs.Opening.{ring_of, flip-parts}
-use Rattle.neighbourhood.specs.Moment as K
-use Rattle.neighbourhood.specs.Moment.{Moment, waits, opens_kept, lists-kept}
 
 -- ---- tests of which at most one passes
 one_at_most : (b : Bool) → one b ≤ 1
@@ -81,7 +75,7 @@ module _ (c : Chart) (snd : Sound c) (q : Place) where
   fan-reverse l f = record { once = λ v vl. omega (arith, many-reverse (faces v) l, f.once v vl) }
 
   -- a side split in two
-  split : (e : ℕ) → Inner c e → High (sd (partner e)) → Pos (sd (c.next e)) → Pos (sd (c.prev e)) → (v : ℕ) → one (faces v (c.prev e)) + one (faces v (c.next e)) ≤ one (faces v (partner e))
+  pub split : (e : ℕ) → Inner c e → High (sd (partner e)) → Pos (sd (c.next e)) → Pos (sd (c.prev e)) → (v : ℕ) → one (faces v (c.prev e)) + one (faces v (c.next e)) ≤ one (faces v (partner e))
   split e i h x y v =
       two-in-one (faces v (c.prev e)) (faces v (c.next e)) (faces v (partner e))
       (λ p. of-faced v (partner e) (B e) (A e) ta tb (split-second q (B e) (A e) (C e) (c.place v) h' x' y' (to-faced v (c.prev e) (C e) (A e) refl pb p)))
@@ -110,31 +104,6 @@ module _ (c : Chart) (snd : Sound c) (q : Place) where
       y' = subst (λ (p : Place). Pos (side (C e) p q)) pb y
 
   module _ (g : ℕ) where
-    -- turns of the search keep it
-    opens-fan : (e : ℕ) (s : List ℕ) (w : Found) (l : e < c.half_edges) (y : should_flip c q w.opened e ≡ true) (m : Moment c snd q g (e ∷ s) w) → Fan (ring_of (e ∷ s) w) → Fan (ring_of (partner (c.prev e) ∷ partner (c.next e) ∷ s) (opening c e w))
-    unfolding how_many
-    opens-fan e s w l y m f =
-        let p = flip-parts c snd q w.opened e l y in
-        let b = waits c snd q g e s w l m in
-        let win = M.win c snd q w.opened e p.0 p.1 p.2 b m.high in
-        subst Fan (K.two c snd q g e s w l y m)
-        (record {
-          once = λ v vl.
-              let t1 : how_many (faces v) (w.listed ++ c.prev e ∷ c.next e ∷ map partner s) ≡ how_many (faces v) w.listed + (one (faces v (c.prev e)) + (one (faces v (c.next e)) + how_many (faces v) (map partner s))) =
-              many-append (faces v) w.listed (c.prev e ∷ c.next e ∷ map partner s) in
-              let t2 : how_many (faces v) (w.listed ++ partner e ∷ map partner s) ≡ how_many (faces v) w.listed + (one (faces v (partner e)) + how_many (faces v) (map partner s)) =
-              many-append (faces v) w.listed (partner e ∷ map partner s) in
-              let t3 : one (faces v (c.prev e)) + one (faces v (c.next e)) ≤ one (faces v (partner e)) =
-              split e p.0 (m.high (partner e) (partner-in snd.range e l) b) win.0 win.1 v in
-              let t4 : how_many (faces v) (w.listed ++ partner e ∷ map partner s) ≤ 1 = f.once v vl in
-              omega arith;
-        })
-
-    pub fans : {s t : List ℕ} {w v : Found} → Leads c q s w t v → Moment c snd q g s w → Fan (ring_of s w) → Fan (ring_of t v)
-    fans stays m f = f
-    fans {s = h ∷ s} {w = w} (opens l y r) m f = fans r (opens_kept c snd q g h s w l y m) (opens-fan h s w l y m f)
-    fans {s = h ∷ s} {w = w} (lists y r) m f = fans r (lists-kept c snd q g h s w y m) (subst Fan (K.same c snd q g h s w y m) f)
-
     -- ---- it is there at the start
     pub first_fan : Seat c snd q g → Fan (c.prev g ∷ c.next g ∷ g ∷ [])
     unfolding how_many

@@ -1,7 +1,8 @@
 // Triangles that are written into a chart: a flip, a vertex put into a face and a vertex put into an edge, each as a list of them.
+#![tactic(auto)]
 
 // A half-edge of a triangle: its number, the other two, the face, and the vertices where it starts, where it ends, and across.
-#[derive(Drop)]
+#[derive(Clone, Copy)]
 pub struct Row {
     pub key: usize,
     pub next: usize,

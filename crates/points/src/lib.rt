@@ -1,4 +1,6 @@
 // Points and projections in f64, as point.rs and math.rs have them, and the chart's whole numbers taken over into f64.
+#![tactic(auto)]
+
 ghost use Rattle.std.specs.Prelude.{◌≡◌, false, ◌<◌, pos};
 ghost use Rattle.whole.specs.Bound.{Within, outside};
 ghost use Rattle.geometry.specs.Plane.{OnGrid};
@@ -10,14 +12,14 @@ ghost use Rattle.points.specs.Points.{point_of, point_add, point_length2, point_
 
 use geometry::Place;
 
-#[derive(Drop)]
+#[derive(Clone, Copy)]
 pub struct Point2 {
     pub x: f64,
     pub y: f64,
 }
 
 // Where a point's projection lies along an edge: factor out of length_2.
-#[derive(Drop)]
+#[derive(Clone, Copy)]
 pub struct PointProjection {
     pub factor: f64,
     pub length_2: f64,

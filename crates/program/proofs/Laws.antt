@@ -15,9 +15,9 @@ use Rattle.book.specs.Laws.{fresh-valid, valid-book}
 use Rattle.reading.specs.Reading.{chart_refusal_of}
 use Rattle.entries.specs.Entry.{entry_width, entries_of}
 use Rattle.accounts.specs.Batch.{Outcome, outcome, book_after, answers_from, batch_refusal, batch_of, by_refusal}
-use Rattle.accounts.specs.Demand3.{entries-count, answers-length}
-use Rattle.log.specs.Log.{entries_max, log_of}
-use Rattle.log.specs.Log.Log.{entries, refused}
+use Rattle.accounts.proofs.Demand3.{entries-count, answers-length}
+use Rattle.log_text.specs.Log.{entries_max, log_of}
+use Rattle.log_text.specs.Log.Log.{entries, refused}
 use Rattle.report.specs.Lines.{refusal_line, program_sections}
 use Rattle.estivolh.specs.Account.{queries}
 use Rattle.columns.specs.Laid.{laid}

@@ -18,7 +18,7 @@ use Rattle.interpolate.specs.Values.{sum_from}
 use Rattle.values.specs.Value.{located_value, value_on}
 use Rattle.accounts.specs.Rulings.{entry_ruling}
 use Rattle.triangle.specs.TriangleA.{file_a, vertices_a, edges_a, faces_a}
-use Rattle.log.specs.Log.{log_of}
+use Rattle.log_text.specs.Log.{log_of}
 use Rattle.report.specs.Lines.{answer_line, section_line, retired_line, refusal_line, answer_lines, section_lines, book_lines, output_of}
 use Rattle.program.specs.Program.{ran_of, printed_of, program_of}
 
@@ -52,10 +52,6 @@ example_output =
     ++ digit 49 ++ after 15 (48 ∷ []) ++ after 15 (48 ∷ []) ++ lf
     ++ after 13 (49 ∷ 56 ∷ 48 ∷ []) ++ lf
 
-pub example : program_of file_a example_log ≡ example_output
-unfolding example_log example_output file_a vertices_a edges_a faces_a from eqs spaces_of digits_of columns last_digit field_text value_of candidate field_of line_of table_of off_grid cross_of dot_of norm2_of side lifted circle on_open_segment counts_refused not_below bad_vertex bad_half_edge bad_face out_of_range linked links_broken chart_refusal tables_refusal counts_of head_of body_of load_of chart_in location_of two_point_interpolation barycentric_interpolation weigh_two weigh_three edge_neighbors neighbors_of shares_from shares_of settled sum_from located_value value_on entry_ruling log_of answer_line section_line retired_line answer_lines section_lines book_lines output_of ran_of printed_of add sub mul div of_bits of_int le lt eq neg
-example = refl
-
 -- a line of 8 columns with one digit
 abbrev number_line : ℕ → List ℕ
 number_line b = digit b ++ lf
@@ -69,7 +65,3 @@ pub record Refusals : Type 0 where
   pub log-cut : program_of file_a (49 ∷ []) ≡ number_line 51
   -- "The book has 2 sections": of a log without entries the book alone
   pub no-entry : program_of file_a [] ≡ digit 48 ++ after 15 (48 ∷ []) ++ after 15 (48 ∷ []) ++ lf ++ digit 49 ++ after 15 (48 ∷ []) ++ after 15 (48 ∷ []) ++ lf ++ after 15 (48 ∷ []) ++ lf
-
-pub refusals : Refusals
-unfolding example_log example_output file_a vertices_a edges_a faces_a from eqs spaces_of digits_of columns last_digit field_text value_of candidate field_of line_of table_of off_grid cross_of dot_of norm2_of side lifted circle on_open_segment counts_refused not_below bad_vertex bad_half_edge bad_face out_of_range linked links_broken chart_refusal tables_refusal counts_of head_of body_of load_of chart_in location_of two_point_interpolation barycentric_interpolation weigh_two weigh_three edge_neighbors neighbors_of shares_from shares_of settled sum_from located_value value_on entry_ruling log_of answer_line section_line retired_line answer_lines section_lines book_lines output_of ran_of printed_of add sub mul div of_bits of_int le lt eq neg refusal_line
-refusals = record { no-chart = refl; chart-first = refl; log-cut = refl; no-entry = refl }

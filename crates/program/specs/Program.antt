@@ -7,8 +7,8 @@ use Rattle.reading.specs.Reading.{chart_refusal_of}
 use Rattle.entries.specs.Entry.{entry_width, entries_of}
 use Rattle.accounts.specs.Batch.{book_after, answers_from}
 use Rattle.estivolh.specs.Account.{queries}
-use Rattle.log.specs.Log.{Log, entries_max, log_of}
-use Rattle.log.specs.Log.Log.{entries, refused}
+use Rattle.log_text.specs.Log.{Log, entries_max, log_of}
+use Rattle.log_text.specs.Log.Log.{entries, refused}
 use Rattle.report.specs.Lines.{answer_bytes, book_bytes, program_sections, refusal_line, output_of}
 use Rattle.columns.specs.Laid.{laid}
 

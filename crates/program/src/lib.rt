@@ -1,6 +1,8 @@
 // What 01's program prints for a chart and a log, as functions on slices.
+#![tactic(auto)]
+
 ghost use Rattle.std.specs.Prelude.{◌≡◌, ◌≤◌, length};
-ghost use Rattle.log.specs.Log.{entries_max};
+ghost use Rattle.log_text.specs.Log.{entries_max};
 ghost use Rattle.report.specs.Lines.{refusal_line};
 ghost use Rattle.program.specs.Program.{output_max, entries_printed, refusal_printed, printed_of, Printed, WholeEntries};
 
@@ -27,8 +29,8 @@ fn first_refusal(chart: &[u8], log: u64) -> u64
 // The entries of a log on a fresh book: the answers and the book, or what refuses the chart. The batch checks the chart, so that a run
 // checks it once.
 fn print_entries(chart: &[u8], entries: &[i64], out: &mut [u8]) -> usize
-    requires fact_1 { WholeEntries entries.now }
-    requires fact_2 { output_max ≤ length out.old }
+    requires whole { WholeEntries entries.now }
+    requires room { output_max ≤ length out.old }
     ensures { Printed out.old (entries_printed chart.now entries.now) out.new result }
 {
     let mut answers = answer_room();
@@ -47,8 +49,8 @@ pub fn print(chart: &[u8], size: usize, log: &[u8], out: &mut [u8]) -> usize
     requires { output_max ≤ length out.old }
     ensures { Printed out.old (printed_of chart.now size log.now) out.new result }
 {
-    let mut entries = log::entry_room();
-    let read = log::read_log(size, log, &mut entries);
+    let mut entries = log_text::entry_room();
+    let read = log_text::read_log(size, log, &mut entries);
     if read.refusal != 0 {
         return report::put_refusal(out, first_refusal(chart, read.refusal));
     }

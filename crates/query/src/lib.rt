@@ -1,4 +1,6 @@
 // The queries on checked tables, behind the refusals 12 to 14.
+#![tactic(auto)]
+
 ghost use Rattle.std.specs.Prelude.{◌≡◌, ◌++◌, ◌≤◌, length, drop};
 ghost use Rattle.geometry.specs.Plane.{OnGrid};
 ghost use Rattle.chart.specs.Tables.{rows};
@@ -18,7 +20,7 @@ use locate::Location;
 use weights::BarycentricWeights;
 
 // Where a load lies; the numbers are those of vertices, half-edges and faces. Or the refusal.
-#[derive(Drop)]
+#[derive(Clone, Copy)]
 pub enum PositionInTriangulation {
     OnVertex(u64),
     OnEdge(u64),
@@ -73,7 +75,7 @@ pub fn weights_on(
 }
 
 // The gradient's two components, or the refusal.
-#[derive(Drop)]
+#[derive(Clone, Copy)]
 pub enum EstimatedGradient {
     Components(f64, f64),
     Refused(u64),
@@ -98,7 +100,7 @@ pub fn gradient_on(
 }
 
 // How many edges or weights were written, and how many faces were opened; or the refusal.
-#[derive(Drop)]
+#[derive(Clone, Copy)]
 pub enum NaturalNeighbors {
     Listed(u64, u64),
     Refused(u64),

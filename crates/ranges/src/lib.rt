@@ -1,4 +1,6 @@
 // Refusals 4 and 6: the counts, and the range of every number, of three tables of whole numbers in file order.
+#![tactic(auto)]
+
 ghost use Rattle.std.specs.Prelude.{◌≡◌, ◌<◌, length, pos};
 ghost use Rattle.whole.specs.First.{some};
 ghost use Rattle.whole.specs.Bound.{outside};

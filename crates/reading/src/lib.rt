@@ -1,4 +1,6 @@
 // The bytes of a chart read and checked: refusals 3, 5, 4 on its head, then 3, 5 and 6 to 11 on its body.
+#![tactic(auto)]
+
 ghost use Rattle.std.specs.Prelude.{◌≡◌, ◌+◌, ◌*◌, ◌≤◌, length, take, drop};
 ghost use Rattle.tables.specs.Table.{fields_max, lines_max, line_bytes, table_of, given};
 ghost use Rattle.chart.specs.Limits.{most_vertices, most_half_edges, most_faces};
@@ -14,7 +16,7 @@ pub const ROW_BYTES: usize = 33;
 pub const FACE_BYTES: usize = 9;
 
 // The counts of a chart's first line, or the refusal that meets it.
-#[derive(Drop)]
+#[derive(Clone, Copy)]
 pub enum Head {
     Refused(u64),
     Counts(usize, usize, usize),

@@ -36,32 +36,3 @@ value-within ms ns w (Answer.turned_down k) h = among-within ms ns w k h
 pub either : {X : Type 0} (P : X → Type 0) (t : Bool) (x y : X) → P x → P y → P (cond t x y)
 either P true x y a b = a
 either P false x y a b = b
-
-charged-by : (i : ℕ) (v : Float) → OnlyBy of_entry (charged i v)
-charged-by i v = go (off_scale v) refl
-  where
-    go : (b : Bool) → off_scale v ≡ b → OnlyBy of_entry (charged i v)
-    go true e = rw e refl
-    go false e = rw e (on-scale v e).1
-
-bend-by : (i : ℕ) (a : Answer) → ValueBy of_entry a → OnlyBy of_entry (bend_ruling i a)
-bend-by i (Answer.value v) h = charged-by i v
-bend-by i (Answer.turned_down k) h = h
-
-ruling-by : (Q : Queries) (s : ℕ) (chart : List ℕ) (e : Entry) → ValueBy of_entry (Q chart e.method (place_in e)) → OnlyBy of_entry (entry_ruling Q s chart e)
-unfolding entry_ruling
-ruling-by Q s chart e h =
-    let i = unsigned e.section in
-    let v = bend_ruling i (Q chart e.method (place_in e)) in
-    let w = cond (is_splice e.kind) (Splice i) v in
-    either (OnlyBy of_entry) (unknown s e) (Refused 12) (cond (off_grid (place_in e)) (Refused 13) w) refl
-    (either (OnlyBy of_entry) (off_grid (place_in e)) (Refused 13) w refl (either (OnlyBy of_entry) (is_splice e.kind) (Splice i) v tt (bend-by i (Q chart e.method (place_in e)) h)))
-
--- 17 comes last, by any total and counts
-with17-by : (total : ℕ) (count : ℕ → ℕ) (r : Ruling) → OnlyBy of_entry r → OnlyBy of_entry (with17 total count r)
-with17-by total count (Bend i n) h = either (OnlyBy of_entry) (meets17 total (count i) n) (Refused 17) (Bend i n) refl h
-with17-by total count (Splice i) h = h
-with17-by total count (Refused k) h = h
-
-pub entry-by : (Q : Queries) (s : ℕ) (chart : List ℕ) (e : Entry) → ValueBy of_entry (Q chart e.method (place_in e)) → (total : ℕ) (count : ℕ → ℕ) → OnlyBy of_entry (with17 total count (entry_ruling Q s chart e))
-entry-by Q s chart e h total count = with17-by total count (entry_ruling Q s chart e) (ruling-by Q s chart e h)

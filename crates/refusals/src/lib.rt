@@ -1,1 +1,2 @@
 // Theorem: which refusals each public call can give, for all arguments: everything is in specs/.
+#![tactic(auto)]

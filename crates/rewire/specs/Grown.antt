@@ -16,8 +16,10 @@ use Rattle.patches.specs.declared.Row.{Row}
 use Rattle.patches.specs.Rows.{row_from, row_at, Hit, none, hit, hit_of, face_hit}
 use Rattle.patches.specs.Wired.{Wired}
 use Rattle.patches.specs.Patch.{from_by, next_by, prev_by, face_by, key_by, put, grown_with, Patch}
-use Rattle.patches.specs.Insert.{insert_row₀, insert_row₁, insert_row₂, insert_rows, inserted, insert-patch}
-use Rattle.patches.specs.Split.{split_row₀, split_row₁, split_row₂, split_row₃, split_rows, split_out, split, split-patch}
+use Rattle.patches.specs.Insert.{insert_row₀, insert_row₁, insert_row₂, insert_rows, inserted}
+use Rattle.patches.proofs.Insert.{insert-patch}
+use Rattle.patches.specs.Split.{split_row₀, split_row₁, split_row₂, split_row₃, split_rows, split_out, split}
+use Rattle.patches.proofs.Split.{split-patch}
 use Rattle.rewire.specs.Tables.{row_in, triangle_in, triangles_in, faces_in, out_in, Within, Fits, length-row, length-triangles, length-faces, triangles-origin, triangles-next, triangles-prev, triangles-face, faces-adjacent, length-out, out-place, out-value, out-out, skip, at₀, at₁, at₂, at₃}
 
 pub record Room (vs : List ℤ) (es fs : List ℕ) (n h f : ℕ) : Type 0 where

@@ -1,4 +1,6 @@
 // The operations of dcel_operations.rs on a chart's tables. Each writes whole triangles in.
+#![tactic(auto)]
+
 ghost use Rattle.std.specs.Prelude.{◌≡◌, ◌<◌, pos, length, set};
 ghost use Rattle.chart.specs.Tables.{rows, next_of, prev_of};
 ghost use Rattle.chart.specs.Chart.{chart_of, partner, InRange};

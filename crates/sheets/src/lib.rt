@@ -1,4 +1,6 @@
 // Chart text put into a buffer: a line of fields, a table of lines, and the text of three tables.
+#![tactic(auto)]
+
 ghost use Rattle.std.specs.Prelude.{◌≡◌, ◌+◌, ◌*◌, ◌≤◌, length};
 ghost use Rattle.tables.specs.Table.{line_bytes};
 ghost use Rattle.tables.specs.Text.{line_text, table_text};

@@ -1,1 +1,2 @@
 // Signs of whole numbers by enumeration, and finite sums: everything is in specs/.
+#![tactic(auto)]

@@ -15,7 +15,8 @@ use Rattle.accepted.specs.Accepted.{Accepted}
 use Rattle.locate.specs.declared.Location.{Location}
 use Rattle.locate.specs.declared.Location.TheVariants.{OnVertex, OnEdge, OnFace, OutsideOfConvexHull}
 use Rattle.locate.specs.Location.{location_of, even, on_edge, in_face}
-use Rattle.locate.specs.Laws.{Holds, located}
+use Rattle.locate.specs.Laws.{Holds}
+use Rattle.locate.proofs.Laws.{located}
 use Rattle.neighbors.specs.Neighbors.{part_of_convex_hull}
 use Rattle.nearby.specs.Chart as Ch
 use Rattle.home.specs.Home.{held_of}

@@ -1,4 +1,6 @@
 // Whether a new vertex can be put into a chart (13, 25), and where it goes in (26).
+#![tactic(auto)]
+
 ghost use Rattle.std.specs.Prelude.{◌≡◌};
 ghost use Rattle.geometry.specs.Plane.{OnGrid};
 ghost use Rattle.chart.specs.Chart.{chart_of};
@@ -27,7 +29,7 @@ pub fn ask(q: Place, value: i64, v: usize) -> u64
 }
 
 // Where a new vertex goes in: into the face of a half-edge, into the edge of one, or nowhere.
-#[derive(Drop)]
+#[derive(Clone, Copy)]
 pub enum Site {
     Inside(usize),
     Across(usize),

@@ -1,1 +1,2 @@
 // What refusals 6 to 10 leave of a chart: everything is in specs/.
+#![tactic(auto)]

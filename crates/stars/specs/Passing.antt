@@ -15,7 +15,7 @@ use Rattle.geometry.specs.Plane.{side, circle}
 use Rattle.chart.specs.Chart.{Chart, InRange, partner, partner-in, outer}
 use Rattle.across.specs.Across.{presses, pressed}
 use Rattle.sound.specs.Sound.{Sound, Inner, Outer, start, end}
-use Rattle.sound.specs.Exactly.{none_before}
+use Rattle.sound.proofs.Exactly.{none_before}
 use Rattle.nearby.specs.Local.{crowded-pressed}
 use Rattle.accepted.specs.Accepted.{Accepted, accepted}
 use Rattle.patches.specs.Wired.{Wired, prev-face, next-differs, prev-differs, next-prev-differ}

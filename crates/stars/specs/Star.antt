@@ -15,7 +15,8 @@ use Rattle.patches.specs.declared.Row.{Row}
 use Rattle.patches.specs.Rows.{none, hit, hit_of, cases, Throughout, throughout}
 use Rattle.patches.specs.Wired.{Wired, next-inner, prev-inner, next-end, prev-end, prev-prev}
 use Rattle.patches.specs.Patch.{Patch, origin-old, origin-new, end-new, apex-new, apex-old, inner-old, outer-missed}
-use Rattle.patches.specs.Flip.{flipped, flip_rows, flip-patch, flip-wired}
+use Rattle.patches.specs.Flip.{flipped, flip_rows}
+use Rattle.patches.proofs.Flip.{flip-patch, flip-wired}
 use Rattle.stars.specs.Circles.{circle-corner, left-next, left-prev, on-left}
 
 -- ---- the corners of an inner half-edge's face: where it starts, where it ends, and across

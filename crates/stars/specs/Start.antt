@@ -17,8 +17,10 @@ use Rattle.patches.specs.Rows.{none, hit_of, Throughout, throughout}
 use Rattle.patches.specs.Wired
 use Rattle.patches.specs.Wired.{Wired, sound-wired, partner-below}
 use Rattle.patches.specs.Patch.{Patch, patched, grown_with, origin-old, outer-missed}
-use Rattle.patches.specs.Insert.{inserted, insert_rows, insert-patch}
-use Rattle.patches.specs.Split.{split, split_rows, split-patch}
+use Rattle.patches.specs.Insert.{inserted, insert_rows}
+use Rattle.patches.proofs.Insert.{insert-patch}
+use Rattle.patches.specs.Split.{split, split_rows}
+use Rattle.patches.proofs.Split.{split-patch}
 use Rattle.sound.specs.Sound.{Inner, Outer, start, end, Sound}
 use Rattle.nearby.specs.Chart as Ch
 use Rattle.nearby.specs.Rim as Ri

@@ -1,1 +1,2 @@
 // The star of a new vertex and the flips about it: everything is in specs/.
+#![tactic(auto)]

@@ -6,7 +6,8 @@ use Rattle.whole.specs.Bools.{never}
 use Rattle.text.specs.Field.{field_of, field_text, field_width}
 use Rattle.text.specs.declared.Field.{Field}
 use Rattle.text.specs.declared.Field.TheVariants.{Number, Malformed}
-use Rattle.text.specs.RoundTrip.{field-read, field_back, field-length, Fits}
+use Rattle.text.specs.RoundTrip.{field-read, field-length, Fits}
+use Rattle.text.proofs.RoundTrip.{field_back}
 use Rattle.tables.specs.Table.{Cells, given, before, join, cell_of, line_of, line_bytes, table_of}
 use Rattle.tables.specs.Table.Cells.{cells, bad}
 use Rattle.tables.specs.Text.{line_text, table_text}

@@ -1,4 +1,6 @@
 // Tables of chart text: lines of fields, each line with its line end.
+#![tactic(auto)]
+
 ghost use Rattle.std.specs.Prelude.{◌≡◌, ◌+◌, ◌*◌, ◌≤◌, ◌<◌, length, drop};
 ghost use Rattle.text.specs.Field.{field_width};
 ghost use Rattle.tables.specs.Starts.{Starts};

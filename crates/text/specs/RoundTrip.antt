@@ -5,7 +5,7 @@ use Rattle.std.proofs.Common.{append_assoc, ap, ◌∙◌, arith, length-append,
 use Rattle.std.proofs.Math.Decide.{ℕ_discrete}
 use Rattle.std.proofs.Math.Nat.{pow-succ'}
 use Rattle.text.specs.Field.{spaces_of, digits_of, value_of, columns, columns-length, last_digit, field_of, field_text, candidate}
-use Rattle.text.specs.Bytes.{eqs, eqs-true, eqs-refl}
+use Rattle.text.specs.Bytes.{eqs, eqs-true}
 use Rattle.text.specs.declared.Field.TheVariants.{Number, Malformed}
 
 -- ---- read, then written
@@ -137,7 +137,7 @@ unfolding last_digit
 minus-neg-text k n h = let p = rw (pow-succ' 10 k) at h in minus-neg k (n / 10) ((48 + n % 10) ∷ []) (omega arith)
 
 -- the only number whose text this can be is z
-candidate-text : (w : ℕ) (z : ℤ) → Fits w z → candidate (field_text w z) ≡ z
+pub candidate-text : (w : ℕ) (z : ℤ) → Fits w z → candidate (field_text w z) ≡ z
 unfolding candidate field_text
 candidate-text zero (pos n) h = let f : ⊥ = omega arith in absurd f
 candidate-text (suc k) (pos n) h = rw (value-digits (last_digit (suc k) 32 n), value-text k 32 n h.1 (omega arith), minus-pos-text k n) refl
@@ -151,10 +151,6 @@ candidate-text (suc (suc k)) (negsuc n) h =
     rw (value-digits (last_digit (suc (suc k)) 45 (suc n)), value-text (suc k) 45 (suc n) q (omega arith), minus-neg-text k (suc n) p) refl
 
 -- bytes that are the text of their candidate hold it
-number-yes : (s : List ℕ) (z : ℤ) → candidate s ≡ z → eqs s (field_text (length s) z) ≡ true → field_of s ≡ Number z
+pub number-yes : (s : List ℕ) (z : ℤ) → candidate s ≡ z → eqs s (field_text (length s) z) ≡ true → field_of s ≡ Number z
 unfolding field_of
 number-yes s z c e = rw (c, e) refl
-
--- a number that fits its field, written, is read as it was
-pub field_back : (w : ℕ) (z : ℤ) → Fits w z → field_of (field_text w z) ≡ Number z
-field_back w z h = number-yes (field_text w z) z (candidate-text w z h) (rw (field-length w z) (eqs-refl (field_text w z)))

@@ -1,4 +1,6 @@
 // Chart text: a field of 8 columns, and the whole number that it holds.
+#![tactic(auto)]
+
 ghost use Rattle.std.specs.Prelude.{◌≡◌, List, ℕ, ◌-◌, ◌≤◌, ◌<◌, length, get_or, eqb, leb};
 ghost use Rattle.text.specs.Field.{field_width, spaces_of, digits_of, field_of};
 ghost use Rattle.text.specs.Natural.{is_figure, figures, plain, number_if, below_zero};
@@ -7,7 +9,7 @@ ghost use Rattle.text.specs.Natural.{is_figure, figures, plain, number_if, below
 pub const COLUMNS: usize = 8;
 
 // A field of a chart: its number, or what is no field.
-#[derive(Drop)]
+#[derive(Clone, Copy)]
 pub enum Field {
     Number(i64),
     Malformed,

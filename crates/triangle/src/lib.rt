@@ -1,1 +1,2 @@
 // 01's triangle A, its file and its tables: everything is in specs/.
+#![tactic(auto)]

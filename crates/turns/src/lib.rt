@@ -1,4 +1,6 @@
 // A turn about a natural neighbour (01, "Weights"; the inner loop of `get_natural_neighbor_weights`), and the points that it joins.
+#![tactic(auto)]
+
 ghost use Rattle.std.specs.Prelude.{◌≡◌, ◌<◌, length};
 ghost use Rattle.chart.specs.Tables.{rows};
 ghost use Rattle.chart.specs.Chart.{chart_of, from_of, InRange};
@@ -8,7 +10,7 @@ ghost use Rattle.turns.specs.Turn.{cell_corner, face_center, first_side, add_sid
 use points::Point2;
 
 // A polygon's positive and negative area, summed apart.
-#[derive(Drop)]
+#[derive(Clone, Copy)]
 pub struct Sides {
     pub positive: f64,
     pub negative: f64,

@@ -1,4 +1,6 @@
 // The value of a load on checked tables (01, "Gradient and value"): the location and its refusals, the weights, and the value by a method.
+#![tactic(auto)]
+
 ghost use Rattle.std.specs.Prelude.{◌≡◌, ◌/◌, ◌≤◌, length};
 ghost use Rattle.geometry.specs.Plane.{OnGrid};
 ghost use Rattle.chart.specs.Limits.{most_half_edges};
@@ -63,7 +65,7 @@ pub fn place_refusal(place: Location) -> u64
 }
 
 // The value, or the refusal.
-#[derive(Drop)]
+#[derive(Clone, Copy)]
 pub enum InterpolatedValue {
     Value(f64),
     Refused(u64),

@@ -1,4 +1,6 @@
 // Barycentric weights by the kind of location (01, "Weights"; `Barycentric::get_weights`).
+#![tactic(auto)]
+
 ghost use Rattle.std.specs.Prelude.{◌≡◌, ◌<◌, length};
 ghost use Rattle.geometry.specs.Plane.{OnGrid};
 ghost use Rattle.chart.specs.Tables.{rows};
@@ -9,7 +11,7 @@ use geometry::Place;
 use points::Point2;
 
 // The vertices in the Rust's order, each with its weight after it; or the number of a refusal.
-#[derive(Drop)]
+#[derive(Clone, Copy)]
 pub enum BarycentricWeights {
     OneVertex(u64, f64),
     TwoWeights(u64, f64, u64, f64),
@@ -17,13 +19,13 @@ pub enum BarycentricWeights {
     Refused(u64),
 }
 
-#[derive(Drop)]
+#[derive(Clone, Copy)]
 pub struct Weights2 {
     pub w0: f64,
     pub w1: f64,
 }
 
-#[derive(Drop)]
+#[derive(Clone, Copy)]
 pub struct Weights3 {
     pub c0: f64,
     pub c1: f64,

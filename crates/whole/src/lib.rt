@@ -1,4 +1,6 @@
 // Laws of the whole numbers, in specs/, and the one test on them that the crates above share.
+#![tactic(auto)]
+
 ghost use Rattle.std.specs.Prelude.{◌≡◌};
 ghost use Rattle.whole.specs.Bound.{outside};
 

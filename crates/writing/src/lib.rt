@@ -1,4 +1,5 @@
 // A chart's tables written back as chart text: refusals 2, 4 and 6 to 11 on the tables, then 18, then the text.
+#![tactic(auto)]
 ghost use Rattle.std.specs.Prelude.{◌≡◌, ◌*◌, length};
 ghost use Rattle.chart.specs.Tables.{rows};
 ghost use Rattle.ranges.specs.Passed.{Counted};
@@ -8,7 +9,7 @@ ghost use Rattle.writing.specs.Writing.{saved_left, numbers_refusal, write_of};
 use reading::{FACE_BYTES, HEAD_BYTES, ROW_BYTES};
 
 // How long the text is that was written, or the refusal.
-#[derive(Drop)]
+#[derive(Clone, Copy)]
 pub enum WrittenChart {
     Length(u64),
     Refused(u64),

@@ -5,6 +5,7 @@ use Rattle.text.specs.Field.{field_of, field_text}
 use Rattle.text.specs.declared.Field.TheVariants.{Number}
 use Rattle.text.specs.RoundTrip.{Fits}
 use Rattle.text.specs.RoundTrip as F
+use Rattle.text.proofs.RoundTrip.{field_back}
 use Rattle.chart.specs.Limits.{most_vertices, most_half_edges, most_faces}
 use Rattle.chart.specs.Tables.{rows, unsigned_all}
 use Rattle.ranges.specs.Passed.{Counted, counts-pass}
@@ -20,7 +21,8 @@ use Rattle.reading.specs.RoundTrip.{text-length, file-is-text, text-is-file, cha
 use Rattle.reading.specs.Fitting.{tables-fit}
 use Rattle.writing.specs.Writing.{numbers_refusal, write_of}
 use Rattle.writing.specs.Writing.Written.{wrote, turned_down}
-use Rattle.writing.specs.Laws.{uneven-none, counts-in, tables-none, range_none, vertex-rows, edge-rows, even-rows, later-refusal, wrote-done, written-room, refused-nothing}
+use Rattle.writing.specs.Laws.{range_none, vertex-rows, edge-rows, even-rows}
+use Rattle.writing.proofs.Laws.{uneven-none, counts-in, tables-none, later-refusal, wrote-done, written-room, refused-nothing}
 
 -- the tables that a file holds, as numbers in file order
 pub record Numbers (s : List ℕ) : Type 0 where
@@ -142,7 +144,7 @@ pub written_back : WrittenBack
 written_back =
     record {
       field-read = F.field-read;
-      field_back = F.field_back;
+      field_back = field_back;
       file-numbers = λ s h. numbers-body s (numbers_in s) refl (numbers-by s (head_of s) refl) (refusal-by s h);
       file-tables = λ s vs es fs h q. as-chart s vs es fs q (accepted-tables s vs es fs h q);
       file-written = λ s vs es fs lent h q l.

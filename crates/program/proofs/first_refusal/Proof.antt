@@ -2,7 +2,7 @@
 use Prim.Native.Nat.{ℕ, zero, suc}
 use mathlib.Core.List.{List}
 use mathlib.Core.Path.{◌≡◌, ap, sym, ◌∙◌}
-use Rattle.log.specs.Log.Log.{refused}
+use Rattle.log_text.specs.Log.Log.{refused}
 use Rattle.report.specs.Lines.{refusal_line}
 use Rattle.program.specs.Program.{after_chart}
 use borrow.Author.Rules.{rules}

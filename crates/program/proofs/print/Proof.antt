@@ -5,9 +5,9 @@ use native.Mathlib.Omega.{arith}
 use lib.ListN.{take}
 use lib.Seq.{length-take-le}
 use Rattle.entries.specs.Entry.{entry_width}
-use Rattle.log.specs.Log.{log_of}
-use Rattle.log.specs.Log.Log.{refused}
-use Rattle.log.specs.Laws.{entered, read-refused}
+use Rattle.log_text.specs.Log.{log_of}
+use Rattle.log_text.specs.Log.Log.{refused}
+use Rattle.log_text.proofs.Callers.{entered, read-refused}
 use Rattle.report.specs.Lines.{refusal_bytes, refusal_line}
 use Rattle.report.specs.Laws.{refusal-length}
 use Rattle.program.proofs.Laws.{printed-log, printed-entries, put-printed}

@@ -5,7 +5,7 @@ use native.Mathlib.Omega.{arith}
 use lib.ListN.{length, take}
 use lib.Seq.{length-take-le}
 use Rattle.entries.specs.Entry.{entry_width}
-use Rattle.log.specs.Log.{entries_max}
+use Rattle.log_text.specs.Log.{entries_max}
 use Rattle.book.specs.declared.Returned.{Returned}
 use Rattle.accounts.specs.Batch.{outcome, batch_of}
 use Rattle.report.specs.Lines.{refusal_bytes, refusal_line, answer_bytes, book_bytes, output_of}

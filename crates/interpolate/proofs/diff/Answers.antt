@@ -1,0 +1,6 @@
+-- `interpolate::diff` meets its contract. Assumes nothing.
+use borrow.Author.Rules.{rules}
+use Rattle.interpolate.proofs.diff.Goals as goal
+
+pub returns : goal.returns
+returns c = rw (c.sub.ensures, c.position.ensures, c.point_of.ensures)

@@ -1,0 +1,18 @@
+-- `natural::to_origins` meets its contract. The loop's invariant: the first i elements are starts, the others not yet. Assumes nothing.
+use Prim.Native.Nat.{◌+◌, ◌-◌, ◌<◌, ◌≤◌}
+use mathlib.Core.Path.{◌≡◌, refl}
+use mathlib.Core.List.{◌++◌, map}
+use native.Mathlib.Omega.{arith}
+use borrow.Author.Rules.{rules}
+use lib.ListN.{length, take, drop, get_or, length-set}
+use lib.Seq.{take_at}
+use Rattle.chart.specs.Tables.{origin_of}
+use Rattle.natural.specs.Arrays.{written, unwritten, map_next, length-map-take}
+use Rattle.natural.proofs.to_origins.Given as goal
+
+abbrev pub invariant-loop-i : goal.invariant-loop-i
+invariant-loop-i l =
+    (l.i ≤ l.n) × (length l.list ≡ length l.initial.list) × (l.list ≡ map (origin_of l.edges) (take l.i l.initial.list) ++ drop l.i l.initial.list)
+
+abbrev pub decreases-loop-i : goal.decreases-loop-i
+decreases-loop-i l = l.n - l.i

@@ -1,0 +1,3 @@
+pub mod Flip
+pub mod Insert
+pub mod Split

@@ -1,0 +1,17 @@
+-- `slices::put_floats` meets its contract. The loop's invariant: the elements passed are copied, the others as they were. Assumes nothing.
+use Prim.Native.Nat.{ℕ, ◌+◌, ◌≤◌, ◌-◌}
+use mathlib.Core.Path.{◌≡◌, refl, ap, ◌∙◌}
+use mathlib.Core.List.{List, ◌++◌}
+use native.Mathlib.Omega.{arith}
+use lib.ListN.{length, take, drop, length-set}
+use lib.Ieee.{Float, nan}
+use lib.Seq.{length-take-le, take_all}
+use Rattle.natural.specs.Arrays.{written, first_next}
+use borrow.Author.Rules.{rules}
+use Rattle.slices.proofs.put_floats.Given as goal
+
+abbrev pub invariant-loop-i : goal.invariant-loop-i
+invariant-loop-i l = (l.i ≤ length l.list) × (length l.out ≡ length l.initial.out) × (l.out ≡ take l.i l.list ++ drop l.i l.initial.out)
+
+abbrev pub decreases-loop-i : goal.decreases-loop-i
+decreases-loop-i l = length l.list - l.i

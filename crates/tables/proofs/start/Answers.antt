@@ -1,0 +1,6 @@
+-- `tables::start` meets its contract: the entry is its formula.
+use borrow.Author.Rules.{rules}
+use Rattle.tables.proofs.start.Goals as goal
+
+pub returns : goal.returns
+returns c = c.requires.starts.at c.args.j c.requires.j_bound
