@@ -1,5 +1,6 @@
 // Refusal 11 of a chart that 7 to 10 let pass: one circle for each edge, instead of every vertex against every circle (theorem `crowded-pressed`, crate `nearby`).
 #![tactic(auto)]
+
 ghost use Rattle.std.specs.Prelude.{◌≡◌, ◌<◌, ◌/◌};
 ghost use Rattle.whole.specs.First.{some};
 ghost use Rattle.chart.specs.Tables.{rows};

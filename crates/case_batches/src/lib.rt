@@ -1,6 +1,7 @@
 // A list of batches, each handed the book of the one before. Lines of numbers: sections, retired wear and room of the first batch; 16 times
 // wear and bends; its entry slice. Then for each further batch: its room and how many bytes the chart lacks at its end; its entry slice.
 #![tactic(auto)]
+
 ghost use Rattle.std.specs.Prelude.{◌≡◌, ◌≤◌, length};
 
 use batch_text::{Opening, Two};

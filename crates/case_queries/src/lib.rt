@@ -1,5 +1,6 @@
 // The gradients of a case's chart, and its queries.
 #![tactic(auto)]
+
 ghost use Rattle.std.specs.Prelude.{◌≤◌, length};
 
 use case_text::queries;

@@ -1,5 +1,6 @@
 // The lines of a rooms text: the length of an answer slice, with its line end.
 #![tactic(auto)]
+
 ghost use Rattle.std.specs.Prelude.{◌≡◌, ◌≤◌, length};
 ghost use Rattle.case_rooms.specs.Refusal.{before_load, refusal_in};
 

@@ -1,6 +1,7 @@
 // The chart's tables, three flat slices in file order, and the accessors by which every other function reads them.
 //     vertices: x, y, value, out half-edge    edges (half-edges): origin, next, prev, face    faces: adjacent half-edge
 #![tactic(auto)]
+
 ghost use Rattle.std.specs.Prelude.{◌≡◌, ◌<◌, length};
 ghost use Rattle.geometry.specs.Plane.{OnGrid};
 ghost use Rattle.chart.specs.Tables.{unsigned, rows, place_of, value_of, out_of, origin_of, next_of, prev_of, face_of, adjacent_of};

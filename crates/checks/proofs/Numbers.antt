@@ -1,13 +1,10 @@
 -- Which numbers refuse tables. Assumes nothing.
-use Rattle.std.specs.Prelude.{◌≡◌, refl, true, List, [], ◌∷◌, ℕ, ℤ}
+use Rattle.std.specs.Prelude.{◌≡◌, refl, true, List, ◌∷◌, ℤ}
 use Rattle.whole.specs.Among.{among, among-cond}
-use Rattle.whole.specs.First.{some}
 use Rattle.chart.specs.Tables.{unsigned_all}
-use Rattle.chart.specs.Chart.{Chart, chart_of}
+use Rattle.chart.specs.Chart.{chart_of}
 use Rattle.ranges.specs.Ranges.{out_of_range}
-use Rattle.links.specs.Links.{links_broken}
-use Rattle.delaunay.specs.Delaunay.{shares_place, not_left, overhung, crowded}
-use Rattle.checks.specs.Checks.{chart_refusal, tables_refusal}
+use Rattle.checks.specs.Checks.{tables_refusal}
 use Rattle.checks.specs.Numbers.{of_tables, chart-among}
 
 -- 0 where none refuses them

@@ -1,5 +1,6 @@
 // A number put into the columns of a field: every field of a chart's text and of the program's lines is written by `put_columns`.
 #![tactic(auto)]
+
 ghost use Rattle.std.specs.Prelude.{◌≡◌, [], ◌∷◌, ◌+◌, ◌%◌, ◌≤◌, ◌<◌, length, nat_abs};
 ghost use Rattle.text.specs.Field.{last_digit, field_text};
 ghost use Rattle.columns.specs.Laid.{laid};

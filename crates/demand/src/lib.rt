@@ -1,5 +1,6 @@
 // Demand 3 of the public calls: specs/Demand.antt. Below, a function that makes such calls; what it promises is read off the theorem.
 #![tactic(auto)]
+
 ghost use Rattle.std.specs.Prelude.{◌≤◌, length};
 ghost use Rattle.book.specs.Books.{section_max};
 ghost use Rattle.demand.specs.Demand.{Divisible, Alike};

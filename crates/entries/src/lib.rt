@@ -1,5 +1,6 @@
 // An entry of the log, its row 12, and what becomes of it (01, "Charge, entry, book").
 #![tactic(auto)]
+
 ghost use Rattle.std.specs.Prelude.{◌≡◌, ◌≤◌, ◌<◌, ◌+◌, ◌^◌, length};
 ghost use Rattle.entries.specs.Entry.{entry_width, entry_at, untidy, unknown_kind, unknown, place_in};
 ghost use Rattle.entries.specs.Ruling.{UpTo17, answer_of, meets17};

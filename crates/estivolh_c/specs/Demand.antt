@@ -1,7 +1,7 @@
 -- Demand 3 of the exported calls: the book that `estivolh_fresh` and `estivolh_batch` keep in a lent slice is the book of the public calls (`batch-kept`), so
 -- that the demand holds of calls that were made on a slice (`demand-kept`). Assumes nothing.
-use Rattle.std.specs.Prelude.{◌≡◌, refl, Bool, false, cond, List, [], ◌∷◌, ℕ, zero, suc, ◌≤◌, ℤ, length, take, drop}
-use Rattle.std.proofs.Common.{sym, ap, ◌∙◌, subst, arith, length-set, length-drop, length-append, length-take-le, le-ltb}
+use Rattle.std.specs.Prelude.{◌≡◌, refl, Bool, false, cond, ltb, List, [], ◌∷◌, ℕ, zero, suc, ◌≤◌, ℤ, length, take, drop}
+use Rattle.std.proofs.Common.{sym, ap, ◌∙◌, subst, arith, length-set, length-drop, length-append, length-take-le, le-ltb, ltb-false}
 use Rattle.book.specs.declared.Book.{Book}
 use Rattle.book.specs.declared.Returned.{Returned}
 use Rattle.book.specs.Books.{section_max, bad_sections, zero_book, fresh_book}
@@ -120,9 +120,14 @@ module _ (s : ℕ) (h : 1 ≤ s) (k : s ≤ section_max) (lent : List ℕ) (long
       let g : bad_sections s ≡ false = rw (le-ltb s 1 h, le-ltb section_max s k) in
       ap (λ (t : Bool). cond t (record { refusal = 1; book = zero_book 0 }) (record { refusal = 0; book = zero_book s })) g
 
+  -- a slice that holds a book is long enough for every shorter bound too
+  met : (m : ℕ) → ltb book_numbers m ≡ false → m ≤ length lent
+  met m e = omega (arith, long, ltb-false book_numbers m e)
+
   fresh-written : fresh_called s lent ≡ left 0 (kept 0 (numbers_of (fresh s)) lent)
   fresh-written =
-      sym (enough _ _ _ _ long)
+      let e : returned_left (fresh_book s) lent ≡ fresh_called s lent = enough _ _ _ _ (met _ refl) in
+      sym e
       ∙ (ap (λ (r : Returned). returned_left r lent) fresh-accepted ∙ sym (ap (λ (r : Returned). left 0 (kept 0 (numbers_of r.book) lent)) fresh-accepted))
 
   fresh-long : Long (fresh s)

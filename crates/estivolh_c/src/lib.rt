@@ -1,6 +1,7 @@
 // The public calls for C: numbers and slices only, in a static library. A call's number is 0 where it is accepted, else the refusal's, and then nothing
 // is written. A lent slice shorter than its stated length gets 2 before all else; elements past that length are unchanged.
 #![tactic(auto)]
+
 ghost use Rattle.std.specs.Prelude.{◌≡◌};
 ghost use Rattle.reading.specs.Reading.{chart_refusal_of};
 ghost use Rattle.slices.specs.Lent.{left};

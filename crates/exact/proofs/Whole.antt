@@ -1,21 +1,12 @@
 -- Whole numbers in f64. `Whole x z`: the float x is the whole number z, where a zero may have either sign. Up to 2^53 either way the sum, the difference
 -- and the product of two such floats are the exact whole results, and comparisons are those of the whole numbers. Assumes nothing.
-use Rattle.std.specs.Prelude.{◌≡◌, refl, Bool, true, false, not, cond, ℕ, zero, suc, ◌+◌, ◌-◌, ◌*◌, ◌≤◌, ◌<◌, ltb, eqb, ℤ, pos, negsuc, neg_ℤ, nat_abs, ◌+ℤ◌, ◌-ℤ◌, ◌*ℤ◌, Float}
-use Rattle.std.proofs.Common.{sym, ap, ◌∙◌, subst, zero-add, arith, lt-ltb, le-ltb, ne_eqb}
-use Rattle.std.proofs.lemmas.Bool.{false≢true}
-use Rattle.std.proofs.Math.Decide.{dec_lt}
-use Rattle.std.proofs.Math.Dec.{leb-suc-suc}
-use Rattle.std.proofs.Math.IntN.{+ℤ_comm}
-use Rattle.std.specs.Int.Signed.{lt_z}
+use Rattle.std.specs.Prelude.{◌≡◌, not, ℤ, ◌+ℤ◌, ◌-ℤ◌, Float}
+use Rattle.std.proofs.Common.{sym, ap, ◌∙◌}
 use Rattle.std.specs.Float.{binary64}
-use Rattle.std.specs.Float.Ieee.{unlike, round, sum, lt, ne, below, of_int, of_bits}
-use Rattle.std.specs.Float.Ieee.Exact.{HasValue}
-use Rattle.std.specs.Float.Ieee.Back.{round_whole}
 use Rattle.whole.specs.Bound.{Within}
-use Rattle.whole.specs.Test.{eq_z}
-use Rattle.points.specs.Floats.{f0, ◌+f◌, ◌-f◌, ◌*f◌, real_of, exact_max}
-use Rattle.exact.specs.Signed.{signed, abs-signed, neg-signed, mul-signed, add-negs, minus-le, minus-ge}
-use Rattle.exact.specs.Values.{add-val, sub_val, mul_val, lt_val, zero_val}
+use Rattle.points.specs.Floats.{◌+f◌, ◌-f◌, real_of, exact_max}
+use Rattle.exact.specs.Signed.{signed, neg-signed}
+use Rattle.exact.specs.Values.{add-val, sub_val}
 use Rattle.exact.specs.Whole.{Whole, of-int, value, plain-is, of-int-plain, sum-whole}
 
 -- a difference

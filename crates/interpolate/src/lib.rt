@@ -1,5 +1,6 @@
 // Values from vertices and their weights (01, "Gradient and value"; `interpolate`, `interpolate_gradient` with flatness 1).
 #![tactic(auto)]
+
 ghost use Rattle.std.specs.Prelude.{◌≡◌, ◌≤◌, ◌<◌, length};
 ghost use Rattle.geometry.specs.Plane.{OnGrid};
 ghost use Rattle.chart.specs.Limits.{most_half_edges};

@@ -7,11 +7,8 @@ use Rattle.std.proofs.lemmas.Bool.{false≢true}
 use Rattle.whole.specs.First.{none-at}
 use Rattle.geometry.specs.declared.Place.{Place}
 use Rattle.geometry.specs.Plane.{off_grid}
-use Rattle.chart.specs.Chart.{Chart, chart_of}
-use Rattle.checks.specs.Checks.Loaded.{loaded}
+use Rattle.chart.specs.Chart.{Chart}
 use Rattle.sound.specs.Sound.{Sound}
-use Rattle.reading.specs.Reading.{chart_in}
-use Rattle.accepted.proofs.Bytes.{chart-accepted}
 use Rattle.locate.specs.declared.Location.{Location}
 use Rattle.locate.specs.declared.Location.TheVariants.{OnVertex, OnEdge, OnFace, OutsideOfConvexHull}
 use Rattle.locate.specs.Location.{left_of_outer, location_of}
@@ -115,7 +112,7 @@ module _ (c : Chart) (snd : Sound c) (q : Place) where
     unfolding shares_on
     on-grid-shares os ws = rw on
 
-  all-answered : Answered c q
+  pub all-answered : Answered c q
   all-answered =
       record {
         located = on-grid-location;
@@ -128,6 +125,3 @@ module _ (c : Chart) (snd : Sound c) (q : Place) where
         shared-outside = λ on o os ws. on-grid-shares on os ws ∙ ap (λ (l : Location). shares_from (place_refusal l) c q l os ws) (left-outside c q snd o);
         valued-outside = λ on o m k. value-located m c q k on ∙ value-outside m o;
       }
-
-pub answered : (s : List ℕ) (vs : List ℤ) (es fs : List ℕ) → chart_in s ≡ loaded vs es fs → (q : Place) → Answered (chart_of vs es fs) q
-answered s vs es fs e q = all-answered (chart_of vs es fs) (chart-accepted s vs es fs e).sound q

@@ -16,7 +16,7 @@ use Rattle.signs.specs.Order.{neg-hi, neg-pos, neg-high, pos-high}
 use Rattle.nearby.specs.Chart as Ch
 use Rattle.nearby.specs.Windows as Wn
 use Rattle.neighbourhood.specs.Opening as S
-use Rattle.neighbourhood.specs.Opening.{border, border-yes, left-off, right-off, one-true, one_of, zero_of}
+use Rattle.neighbourhood.specs.Opening.{border, border-yes, left-off, right-off, one_of, zero_of}
 
 module _ (c : Chart) (snd : Sound c) (q : Place) where
   abbrev sd : ℕ → ℤ

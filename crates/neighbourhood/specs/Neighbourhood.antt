@@ -1,8 +1,7 @@
 -- 02, CR 11, the whole neighbourhood: for a load inside a face or on an inner edge of an accepted chart the faces opened are exactly those whose circle strictly
 -- holds it, and the listed edges are their borders to the rest, each once, in a closed ring. Of the answer's own search. Assumes nothing.
 use Rattle.std.specs.Prelude.{◌≡◌, ◌⊎◌, Bool, true, false, ◌&&◌, map, ltb, ℤ, pos}
-use Rattle.std.proofs.Math.Path.{refl, ap}
-use Rattle.std.proofs.Common.{◌∙◌}
+use Rattle.std.proofs.Math.Path.{refl}
 use Prim.Native.Nat.{ℕ, ◌<◌, ◌≤◌}
 use Rattle.std.specs.Int.Signed.{lt_z}
 use Rattle.faceset.specs.Set.{one, count_below}
@@ -36,7 +35,7 @@ neither true = refl
 neither false = refl
 
 pub on-circle : (c : Chart) (q : Place) (f : ℕ) → circle (c.place (corner₀ c f)) (c.place (corner₁ c f)) (c.place (corner₂ c f)) q ≡ pos 0 → holding c q f ≡ false
-on-circle c q f e = ap (λ (z : ℤ). ltb 0 f && lt_z (pos 0) z) e ∙ neither (ltb 0 f)
+on-circle c q f e = rw e (neither (ltb 0 f))
 
 -- of what a search has found, and of the answer that is made of it
 pub record Neighbourhood (c : Chart) (q : Place) (w : Found) (n : Neighbors) : Type 0 where

@@ -1,15 +1,15 @@
 -- `flip_cw`: the edge between two triangles is turned about, as two triangles written in. Assumes nothing.
-use Rattle.std.specs.Prelude.{◌≡◌, refl, ◌⊎◌, Bool, true, false, cond, List, [], ◌∷◌, ℕ, ◌<◌, eqb}
+use Rattle.std.specs.Prelude.{◌≡◌, refl, ◌⊎◌, Bool, true, false, cond, [], ◌∷◌, ℕ, ◌<◌, eqb}
 use Rattle.std.proofs.Math.Path.{sym, ap}
-use Rattle.std.proofs.Common.{subst, ◌∙◌, inl, inr, le_refl, eqb-true}
+use Rattle.std.proofs.Common.{◌∙◌, inl, inr, le_refl, eqb-true}
 use Rattle.std.proofs.lemmas.Bool.{eqb-false}
 use Rattle.chart.specs.Chart.{Chart, partner, partner-twice}
 use Rattle.sound.specs.Sound.{Inner}
 use Rattle.patches.specs.Rows
 use Rattle.patches.specs.declared.Row.{Row}
-use Rattle.patches.specs.Rows.{turn, Hit, none, hit_of, face_hit, cases, at_key, at_rest, at-nil, face-rest, face-nil, missed, face-missed, Distinct, Throughout, throughout, hit-key}
-use Rattle.patches.specs.Wired.{Wired, prev-face, partner-below, next-differs, prev-differs, next-prev-differ, prev-end, next-end, same-face, faces-differ}
-use Rattle.patches.specs.Patch.{from_by, RowIn, Patch, patched, put, with_rows}
+use Rattle.patches.specs.Rows.{Hit, none, hit_of, face_hit, cases, at_key, at_rest, at-nil, face-rest, face-nil, missed, face-missed, Distinct, Throughout, throughout, hit-key}
+use Rattle.patches.specs.Wired.{Wired, prev-face, next-differs, prev-differs, next-prev-differ, same-face, faces-differ}
+use Rattle.patches.specs.Patch.{from_by, RowIn, Patch, patched}
 use Rattle.patches.specs.Flip.{flip_row, flip_rows, flip_out, flipped, first, second, third}
 
 module _ (c : Chart) (w : Wired c) (e : ℕ) (ie : Inner c e) (it : Inner c (partner e)) (tips : c.origin (c.prev e) ≡ c.origin (c.prev (partner e)) → ⊥) where

@@ -7,9 +7,9 @@ use Rattle.geometry.specs.declared.Place.{Place}
 use Rattle.chart.specs.Chart.{Chart, partner, partner-twice}
 use Rattle.sound.specs.Sound.{Inner}
 use Rattle.patches.specs.declared.Row.{Row}
-use Rattle.patches.specs.Rows.{turn, row_from, row_at, Hit, none, hit, hit_of, face_hit, cases, at_key, at_rest, at-nil, face-rest, face-nil, Missed, missed, face-missed, Distinct, Throughout, throughout, hit-key, hit-next}
+use Rattle.patches.specs.Rows.{turn, row_at, Hit, none, hit, hit_of, face_hit, cases, at_key, at_rest, at-nil, face-rest, face-nil, Missed, missed, face-missed, Distinct, Throughout, throughout, hit-key, hit-next}
 use Rattle.patches.specs.Wired.{Wired, prev-face, partner-below, next-differs, prev-differs, next-prev-differ, prev-end, next-end, same-face, faces-differ}
-use Rattle.patches.specs.Patch.{from_by, RowIn, Patch, put, grown_with}
+use Rattle.patches.specs.Patch.{from_by, RowIn, Patch}
 use Rattle.patches.specs.Insert.{over, at-end, six, two-more}
 use Rattle.patches.specs.Split.{split_row₀, split_row₁, split_row₂, split_row₃, split_rows, end_out, split}
 

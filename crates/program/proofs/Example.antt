@@ -1,5 +1,5 @@
 -- 01, "Program": its example, and what a refusal prints, computed: theorems. Assumes nothing.
-use Rattle.std.specs.Prelude.{ℕ, List, [], ◌∷◌, ◌++◌, ◌≡◌, refl, replicate, set}
+use Rattle.std.specs.Prelude.{◌≡◌, refl}
 use Rattle.std.specs.Float.Ieee.{add, sub, mul, div, le, lt, eq, neg, of_bits, of_int}
 use Rattle.whole.specs.First.{from}
 use Rattle.text.specs.Bytes.{eqs}

@@ -1,26 +1,7 @@
 -- 01, "Program": its example, and what a refusal prints, computed. Assumes nothing.
-use Rattle.std.specs.Prelude.{ℕ, List, [], ◌∷◌, ◌++◌, ◌≡◌, refl, replicate, set}
-use Rattle.std.specs.Float.Ieee.{add, sub, mul, div, le, lt, eq, neg, of_bits, of_int}
-use Rattle.whole.specs.First.{from}
-use Rattle.text.specs.Bytes.{eqs}
-use Rattle.text.specs.Field.{spaces_of, digits_of, columns, last_digit, field_text, value_of, candidate, field_of}
-use Rattle.tables.specs.Table.{line_of, table_of}
-use Rattle.geometry.specs.Plane.{off_grid, cross_of, dot_of, norm2_of, side, lifted, circle, on_open_segment}
-use Rattle.ranges.specs.Ranges.{counts_refused, not_below, bad_vertex, bad_half_edge, bad_face, out_of_range}
-use Rattle.links.specs.Links.{linked, links_broken}
-use Rattle.checks.specs.Checks.{chart_refusal, tables_refusal}
-use Rattle.reading.specs.Reading.{counts_of, head_of, body_of, load_of, chart_in}
-use Rattle.locate.specs.Location.{location_of}
-use Rattle.weights.specs.Barycentric.{two_point_interpolation, barycentric_interpolation, weigh_two, weigh_three}
-use Rattle.neighbors.specs.Neighbors.{edge_neighbors, neighbors_of}
-use Rattle.natural.specs.Natural.{shares_from, shares_of, settled}
-use Rattle.interpolate.specs.Values.{sum_from}
-use Rattle.values.specs.Value.{located_value, value_on}
-use Rattle.accounts.specs.Rulings.{entry_ruling}
-use Rattle.triangle.specs.TriangleA.{file_a, vertices_a, edges_a, faces_a}
-use Rattle.log_text.specs.Log.{log_of}
-use Rattle.report.specs.Lines.{answer_line, section_line, retired_line, refusal_line, answer_lines, section_lines, book_lines, output_of}
-use Rattle.program.specs.Program.{ran_of, printed_of, program_of}
+use Rattle.std.specs.Prelude.{ℕ, List, [], ◌∷◌, ◌++◌, ◌≡◌, replicate, set}
+use Rattle.triangle.specs.TriangleA.{file_a}
+use Rattle.program.specs.Program.{program_of}
 
 -- so many spaces, and then these bytes
 abbrev after : ℕ → List ℕ → List ℕ

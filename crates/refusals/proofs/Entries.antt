@@ -1,10 +1,9 @@
 -- What an entry can be refused with, by what its query can be refused with. Assumes nothing.
-use Rattle.std.specs.Prelude.{◌≡◌, refl, Bool, true, false, cond, List, [], ◌∷◌, ℕ, ◌≤◌, Float}
-use Rattle.whole.specs.Among.{among, within, among-within}
+use Rattle.std.specs.Prelude.{◌≡◌, refl, Bool, true, false, cond, List, ℕ, Float}
 use Rattle.geometry.specs.Plane.{off_grid}
 use Rattle.chart.specs.Tables.{unsigned}
 use Rattle.values.specs.Value.{Answer}
-use Rattle.charge.specs.Charging.{charge_max, off_scale}
+use Rattle.charge.specs.Charging.{off_scale}
 use Rattle.charge.specs.Nearest.{on-scale}
 use Rattle.entries.specs.declared.Entry.{Entry}
 use Rattle.entries.specs.declared.Ruling.{Ruling}

@@ -33,16 +33,15 @@ use Rattle.query.specs.Natural as N
 use Rattle.query.specs.Value as I
 use Rattle.writing.specs.Writing as S
 use Rattle.sites.specs.Insertion.{no_site, out_of_bounds, vertex_refusal, insert_refusal}
-use Rattle.inserting.specs.Inserting.{Inserts, InsertOf}
+use Rattle.inserting.specs.Inserting.{Inserts}
 use Rattle.book.specs.declared.Book.{Book}
 use Rattle.book.specs.declared.Returned.{Returned}
-use Rattle.book.specs.Books.{zero_book, bad_sections, bad_book, fresh_book}
+use Rattle.book.specs.Books.{zero_book, bad_sections, bad_book}
 use Rattle.entries.specs.declared.Entry.{Entry}
-use Rattle.entries.specs.declared.Ruling.TheVariants as R
 use Rattle.entries.specs.Entry.{place_in}
 use Rattle.entries.specs.Ruling.{with17}
 use Rattle.accounts.specs.Rulings.{entry_ruling}
-use Rattle.accounts.specs.Batch.{bad_slices, batch_refusal, by_refusal, batch_of}
+use Rattle.accounts.specs.Batch.{bad_slices, batch_refusal, by_refusal}
 use Rattle.estivolh.specs.Account.{queries}
 use Rattle.refusals.specs.Entries.{of_entry, OnlyBy, ValueBy, value-within, either}
 use Rattle.refusals.proofs.Entries.{entry-by}

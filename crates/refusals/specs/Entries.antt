@@ -1,17 +1,10 @@
 -- What an entry can be refused with, by what its query can be refused with. Assumes nothing.
-use Rattle.std.specs.Prelude.{◌≡◌, refl, Bool, true, false, cond, List, [], ◌∷◌, ℕ, ◌≤◌, Float}
+use Rattle.std.specs.Prelude.{◌≡◌, Bool, true, false, cond, List, [], ◌∷◌, ℕ, ◌≤◌}
 use Rattle.whole.specs.Among.{among, within, among-within}
-use Rattle.geometry.specs.Plane.{off_grid}
-use Rattle.chart.specs.Tables.{unsigned}
 use Rattle.values.specs.Value.{Answer}
-use Rattle.charge.specs.Charging.{charge_max, off_scale}
-use Rattle.charge.specs.Nearest.{on-scale}
-use Rattle.entries.specs.declared.Entry.{Entry}
+use Rattle.charge.specs.Charging.{charge_max}
 use Rattle.entries.specs.declared.Ruling.{Ruling}
 use Rattle.entries.specs.declared.Ruling.TheVariants.{Bend, Splice, Refused}
-use Rattle.entries.specs.Entry.{is_splice, unknown, place_in}
-use Rattle.entries.specs.Ruling.{meets17, with17}
-use Rattle.accounts.specs.Rulings.{Queries, charged, bend_ruling, entry_ruling}
 
 -- 01's rows of an entry or query, of a location, of a charge and of the book, as far as an entry can meet them
 abbrev pub of_entry : List ℕ

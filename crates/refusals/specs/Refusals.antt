@@ -1,50 +1,30 @@
 -- Which refusals each public call can give, for all arguments: every chart's bytes, good or bad, every load, slice, book and entry. 02, CR 11: "15 leaves the
 -- table". None is 0, the number that says 'accepted'. Assumes nothing.
-use Rattle.std.specs.Prelude.{◌≡◌, refl, Bool, true, false, cond, ◌||◌, List, [], ◌∷◌, ◌++◌, ℕ, zero, suc, ltb, eqb, Float, ℤ, pos, length}
-use Rattle.std.proofs.Common.{sym, subst}
-use Rattle.whole.specs.Among.{among, among-within, among-cond, among-rest}
-use Rattle.geometry.specs.declared.Place.{Place}
-use Rattle.geometry.specs.Plane.{off_grid}
-use Rattle.chart.specs.Limits.{most_vertices}
-use Rattle.chart.specs.Tables.{rows}
-use Rattle.chart.specs.Chart.{Chart, chart_of}
-use Rattle.ranges.specs.Ranges.{counts_refused}
-use Rattle.checks.specs.Checks.{tables_refusal, Loaded}
-use Rattle.checks.specs.Checks.Loaded.{loaded, refused}
+use Rattle.std.specs.Prelude.{◌≡◌, true, List, [], ◌∷◌, ◌++◌, ℕ, Float, ℤ}
+use Rattle.whole.specs.Among.{among}
+use Rattle.checks.specs.Checks.Loaded.{loaded}
 use Rattle.checks.specs.Numbers.{of_tables}
-use Rattle.checks.proofs.Numbers.{tables-among}
-use Rattle.reading.specs.declared.Head.{Head}
-use Rattle.reading.specs.declared.Head.TheVariants as H
-use Rattle.reading.specs.Reading.{head_of, load_of, chart_in, refusal_of, chart_refusal_of}
-use Rattle.reading.specs.Text.{chart_text}
-use Rattle.reading.specs.Laws.{of_chart, head-among, load-among, chart-among}
-use Rattle.locate.specs.declared.Location.{Location}
-use Rattle.locate.specs.declared.Location.TheVariants.{OnVertex, OnEdge, OnFace, OutsideOfConvexHull}
-use Rattle.locate.specs.Location.{location_of}
-use Rattle.neighbors.specs.Neighbors.{neighbors_of}
-use Rattle.weights.specs.Barycentric.{Weights, weigh_two, weigh_three}
-use Rattle.charge.specs.Charging.{Cost, off_scale, rounded, charge_of}
-use Rattle.values.specs.Located.{place_refusal, barycentric_at}
-use Rattle.values.specs.Value.{Answer, method_of, barycentric_value, natural_value, value_at, value_from, located_value, value_on}
+use Rattle.reading.specs.Reading.{chart_in, chart_refusal_of}
+use Rattle.reading.specs.Laws.{of_chart}
+use Rattle.weights.specs.Barycentric.{Weights}
+use Rattle.charge.specs.Charging.{Cost, charge_of}
+use Rattle.values.specs.Value.{Answer}
 use Rattle.query.specs.Location as L
 use Rattle.query.specs.Weights as W
 use Rattle.query.specs.Gradient as G
 use Rattle.query.specs.Natural as N
 use Rattle.query.specs.Value as I
 use Rattle.writing.specs.Writing as S
-use Rattle.sites.specs.Insertion.{no_site, out_of_bounds, vertex_refusal, insert_refusal}
-use Rattle.inserting.specs.Inserting.{Inserts, InsertOf}
+use Rattle.inserting.specs.Inserting.{InsertOf}
 use Rattle.book.specs.declared.Book.{Book}
-use Rattle.book.specs.declared.Returned.{Returned}
-use Rattle.book.specs.Books.{zero_book, bad_sections, bad_book, fresh_book}
+use Rattle.book.specs.Books.{fresh_book}
 use Rattle.entries.specs.declared.Entry.{Entry}
 use Rattle.entries.specs.declared.Ruling.TheVariants as R
-use Rattle.entries.specs.Entry.{place_in}
 use Rattle.entries.specs.Ruling.{with17}
 use Rattle.accounts.specs.Rulings.{entry_ruling}
-use Rattle.accounts.specs.Batch.{bad_slices, batch_refusal, by_refusal, batch_of}
+use Rattle.accounts.specs.Batch.{batch_of}
 use Rattle.estivolh.specs.Account.{queries}
-use Rattle.refusals.specs.Entries.{of_entry, OnlyBy, ValueBy, value-within, either}
+use Rattle.refusals.specs.Entries.{of_entry}
 
 pub record Refusals : Type 0 where
   -- a chart's bytes

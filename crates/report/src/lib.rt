@@ -1,5 +1,6 @@
 // What the program prints: fields right-justified after spaces, lines that end with LF.
 #![tactic(auto)]
+
 ghost use Rattle.std.specs.Prelude.{◌≡◌, ◌+◌, ◌*◌, ◌≤◌, length};
 ghost use Rattle.report.specs.Lines.{answer_bytes, section_bytes, retired_bytes, refusal_bytes, book_bytes, answer_line, section_line, retired_line, refusal_line, answer_lines, section_lines, book_lines, output_of, program_sections};
 ghost use Rattle.columns.specs.Laid.{laid};

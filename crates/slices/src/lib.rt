@@ -1,6 +1,7 @@
 // Answers and books in lent slices, for the calls exported for C: each function writes what an answer says into the first elements and returns its number, 0
 // where it is accepted; a refusal writes nothing.
 #![tactic(auto)]
+
 ghost use Rattle.std.specs.Prelude.{◌≡◌, [], ◌∷◌, ◌+◌, ◌≤◌, length, take, drop};
 ghost use Rattle.std.proofs.Math.Seq.{paste};
 ghost use Rattle.book.specs.Books.{section_max};

@@ -1,5 +1,6 @@
 // A chart's tables written back as chart text: refusals 2, 4 and 6 to 11 on the tables, then 18, then the text.
 #![tactic(auto)]
+
 ghost use Rattle.std.specs.Prelude.{◌≡◌, ◌*◌, length};
 ghost use Rattle.chart.specs.Tables.{rows};
 ghost use Rattle.ranges.specs.Passed.{Counted};

@@ -3,7 +3,6 @@ use mathlib.Core.Path.{sym, ◌∙◌}
 use Prim.Native.Nat.{◌<◌}
 use native.Mathlib.Omega.{arith}
 use borrow.Author.Tests.{eq-eqb, ne_eqb}
-use borrow.Author.Rules.{rules}
 use Rattle.chart.specs.Tables.{rows}
 use Rattle.chart.specs.Chart.{partner-in}
 use Rattle.across.proofs.is_pressing.Goals as goal

@@ -1,15 +1,9 @@
 -- `across::some_pressed` meets its contract. The loop's invariant: no number passed meets the test. Assumes nothing.
-use Prim.Native.Nat.{ℕ, ◌≤◌, ◌<◌, ◌-◌, ◌/◌}
-use mathlib.Core.Path.{◌≡◌, sym, ◌∙◌}
+use Prim.Native.Nat.{ℕ, ◌≤◌, ◌<◌, ◌-◌}
+use mathlib.Core.Path.{◌≡◌}
 use mathlib.Core.Bool.{false}
-use native.Mathlib.Nat.{lt_of_lt_of_le, not-suc-le-zero}
-use native.Mathlib.Omega.{arith}
-use borrow.Author.Count.{below_more}
-use Rattle.whole.specs.First.{some_at, some-none}
-use Rattle.chart.specs.Tables.{rows}
 use Rattle.chart.specs.Chart.{chart_of}
 use Rattle.across.specs.Across.{pressed}
-use borrow.Author.Rules.{rules}
 use Rattle.across.proofs.some_pressed.Given as goal
 
 abbrev pub invariant-loop-k : goal.invariant-loop-k

@@ -1,6 +1,5 @@
 -- `book::book_refusal` meets its contract: the tests of row 1, one after the other. Assumes nothing.
 use mathlib.Core.Path.{sym, ◌∙◌}
-use borrow.Author.Rules.{rules}
 use Rattle.book.specs.Books.{bad_book}
 use Rattle.book.proofs.book_refusal.Goals as goal
 

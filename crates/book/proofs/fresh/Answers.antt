@@ -1,6 +1,5 @@
 -- `book::fresh` meets its contract, by the test that was made. Assumes nothing.
 use mathlib.Core.Path.{sym, ◌∙◌}
-use borrow.Author.Rules.{rules}
 use Rattle.book.proofs.fresh.Goals as goal
 
 pub returns-then-bad_sections : goal.returns-then-bad_sections

@@ -1,11 +1,7 @@
 -- `book::some_stray` meets its contract. The loop's invariant: no place passed is stray. Assumes nothing.
 use Prim.Native.Nat.{ℕ, ◌≤◌, ◌<◌, ◌-◌}
-use mathlib.Core.Path.{◌≡◌, sym, ◌∙◌}
+use mathlib.Core.Path.{◌≡◌}
 use mathlib.Core.Bool.{false}
-use native.Mathlib.Nat.{lt_of_lt_of_le, not-suc-le-zero}
-use native.Mathlib.Omega.{arith}
-use borrow.Author.Count.{below_more}
-use Rattle.whole.specs.First.{some_at, some-none}
 use Rattle.book.specs.Books.{section_max, stray_at}
 use Rattle.book.proofs.some_stray.Given as goal
 

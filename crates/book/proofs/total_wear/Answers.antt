@@ -1,9 +1,9 @@
-use Prim.Native.Nat.{◌+◌, ◌≤◌, ◌<◌, ◌-◌}
+use Prim.Native.Nat.{◌≤◌, ◌<◌}
 use mathlib.Core.Path.{◌≡◌}
 use native.Mathlib.Omega.{arith}
 use borrow.Author.Rules.{rules}
-use lib.ListN.{length, take}
-use Rattle.book.specs.Books.{section_max, sum_of}
+use lib.ListN.{length}
+use Rattle.book.specs.Books.{section_max}
 use Rattle.book.specs.Sums.{sum-next, sum-part, sum-all}
 use Rattle.book.proofs.total_wear.Goals as goal
 

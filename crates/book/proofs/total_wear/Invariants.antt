@@ -1,11 +1,8 @@
 -- `book::total_wear` meets its contract. The loop's invariant: the total is the retired wear and the wear passed. Assumes nothing.
-use Prim.Native.Nat.{◌+◌, ◌≤◌, ◌<◌, ◌-◌}
+use Prim.Native.Nat.{◌+◌, ◌≤◌, ◌-◌}
 use mathlib.Core.Path.{◌≡◌}
-use native.Mathlib.Omega.{arith}
-use borrow.Author.Rules.{rules}
-use lib.ListN.{length, take}
+use lib.ListN.{take}
 use Rattle.book.specs.Books.{section_max, sum_of}
-use Rattle.book.specs.Sums.{sum-next, sum-part, sum-all}
 use Rattle.book.proofs.total_wear.Given as goal
 
 abbrev pub invariant-loop-i : goal.invariant-loop-i

@@ -1,12 +1,8 @@
 -- `book::wear_above` meets its contract. The loop's invariant: what is left, the retired wear and the wear passed make the limit. Assumes nothing.
-use Prim.Native.Nat.{◌+◌, ◌≤◌, ◌<◌, ◌-◌}
-use mathlib.Core.Path.{◌≡◌, sym}
-use native.Mathlib.Omega.{arith}
-use borrow.Author.Rules.{rules}
-use borrow.Author.Tests.{lt-ltb, le-ltb}
-use lib.ListN.{length, take}
+use Prim.Native.Nat.{◌+◌, ◌≤◌, ◌-◌}
+use mathlib.Core.Path.{◌≡◌}
+use lib.ListN.{take}
 use Rattle.book.specs.Books.{account_max, section_max, sum_of}
-use Rattle.book.specs.Sums.{sum-next, sum-part, sum-all}
 use Rattle.book.proofs.wear_above.Given as goal
 
 abbrev pub invariant-loop-i : goal.invariant-loop-i

@@ -1,7 +1,6 @@
 -- `all_rooms` is safe and ends: each turn answers a line of what is left.
 use Prim.Native.Nat.{◌≤◌, ◌-◌}
 use lib.ListN.{length}
-use borrow.Author.Rules.{rules}
 use Rattle.case_rooms.proofs.all_rooms.Given as goal
 
 abbrev pub invariant-loop-at : goal.invariant-loop-at

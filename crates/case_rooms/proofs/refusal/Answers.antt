@@ -1,7 +1,6 @@
 -- `refusal` meets its contract.
 use mathlib.Core.Path.{◌∙◌, ap, sym}
 use Rattle.case_rooms.specs.Refusal.{refusal_in}
-use borrow.Author.Rules.{rules}
 use Rattle.case_rooms.proofs.refusal.Goals as goal
 
 pub returns-in-Refused : goal.returns-in-Refused

@@ -1,7 +1,6 @@
 -- `weights_refusal` is safe: the parts that it lends lie within their lists.
 use native.Mathlib.Omega.{arith}
 use lib.ListN.{length-take}
-use borrow.Author.Rules.{rules}
 use Rattle.case_rooms.proofs.weights_refusal.Goals as goal
 
 pub slice_bounds-natural_neighbor_weights-end-2 : goal.slice_bounds-natural_neighbor_weights-end-2

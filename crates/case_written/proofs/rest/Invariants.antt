@@ -1,7 +1,6 @@
 -- `rest` is safe and ends: the measure is what is left of the bytes.
 use Prim.Native.Nat.{◌≤◌, ◌-◌}
 use lib.ListN.{length}
-use borrow.Author.Rules.{rules}
 use Rattle.case_written.proofs.rest.Given as goal
 
 abbrev pub invariant-loop-i : goal.invariant-loop-i

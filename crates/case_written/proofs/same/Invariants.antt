@@ -1,6 +1,5 @@
 -- `same` is safe and ends: the measure is what is left of the bytes to compare.
 use Prim.Native.Nat.{◌≤◌, ◌-◌}
-use borrow.Author.Rules.{rules}
 use Rattle.case_written.proofs.same.Given as goal
 
 abbrev pub invariant-loop-i : goal.invariant-loop-i

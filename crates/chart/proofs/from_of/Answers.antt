@@ -3,7 +3,6 @@ use mathlib.Core.Path.{◌≡◌, ap, subst, sym, ◌∙◌}
 use native.Mathlib.Omega.{arith}
 use Rattle.geometry.specs.Plane.{OnGrid}
 use Rattle.chart.specs.Tables.{place_of, origin_of}
-use borrow.Author.Rules.{rules}
 use Rattle.chart.proofs.from_of.Goals as goal
 
 pub place_of-requires : goal.place_of-requires

@@ -6,7 +6,7 @@ use lib.ListN.{get_or}
 use mir.Syntax.{w64}
 use mir.Val.{SFits}
 use mir.Facts.{to_z-of_z}
-use borrow.Author.Rules.{rules, sfits_of}
+use borrow.Author.Rules.{sfits_of}
 use Rattle.chart.specs.Tables.{unsigned}
 use Rattle.chart.proofs.out_of.Goals as goal
 

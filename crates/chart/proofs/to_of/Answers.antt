@@ -1,6 +1,5 @@
 -- `chart::to_of` meets its contract: the partner is in range. Assumes nothing.
 use native.Mathlib.Omega.{arith}
-use borrow.Author.Rules.{rules}
 use Rattle.chart.specs.Chart.{partner-in}
 use Rattle.chart.proofs.to_of.Goals as goal
 

@@ -2,7 +2,6 @@
 use mathlib.Core.Path.{◌∙◌}
 use native.Mathlib.Omega.{arith}
 use Rattle.columns.proofs.Laws.{column-digit}
-use borrow.Author.Rules.{rules}
 use Rattle.columns.proofs.column.Goals as goal
 
 pub returns : goal.returns

@@ -1,6 +1,5 @@
 -- `columns::magnitude` meets its contract: below 0 by way of the distance from -1, which an i64 always holds.
 use Prim.Native.Nat.{◌-◌}
-use borrow.Author.Rules.{rules}
 use mathlib.Core.Bool.{true}
 use mathlib.Core.Path.{◌≡◌, ap, ◌∙◌}
 use native.Mathlib.Omega.{arith}

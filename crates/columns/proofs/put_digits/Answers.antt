@@ -1,4 +1,4 @@
-use Prim.Native.Nat.{ℕ, ◌<◌, ◌-◌, ◌/◌}
+use Prim.Native.Nat.{ℕ, ◌-◌, ◌/◌}
 use mathlib.Core.Path.{◌≡◌, refl, ap, sym, ◌∙◌}
 use mathlib.Core.List.{List, ◌∷◌, ◌++◌}
 use native.Mathlib.Omega.{arith}
@@ -6,7 +6,6 @@ use lib.ListN.{length, drop, length-set}
 use lib.Seq.{drop-length}
 use Rattle.text.specs.Field.{columns, last_digit}
 use Rattle.columns.proofs.Laws.{columns-none, last-column, column-step, column-put}
-use borrow.Author.Rules.{rules}
 use Rattle.columns.proofs.put_digits.Goals as goal
 
 pub loop-k-init : goal.loop-k-init

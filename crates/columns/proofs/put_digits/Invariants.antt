@@ -1,13 +1,9 @@
 -- `columns::put_digits` meets its contract. The invariant: the columns still to write, before those that are written, are the field.
-use Prim.Native.Nat.{ℕ, ◌<◌, ◌-◌, ◌/◌}
-use mathlib.Core.Path.{◌≡◌, refl, ap, sym, ◌∙◌}
-use mathlib.Core.List.{List, ◌∷◌, ◌++◌}
-use native.Mathlib.Omega.{arith}
-use lib.ListN.{length, drop, length-set}
-use lib.Seq.{drop-length}
+use Prim.Native.Nat.{◌<◌}
+use mathlib.Core.Path.{◌≡◌}
+use mathlib.Core.List.{◌++◌}
+use lib.ListN.{length, drop}
 use Rattle.text.specs.Field.{columns, last_digit}
-use Rattle.columns.proofs.Laws.{columns-none, last-column, column-step, column-put}
-use borrow.Author.Rules.{rules}
 use Rattle.columns.proofs.put_digits.Given as goal
 
 abbrev pub invariant-loop-k : goal.invariant-loop-k

@@ -1,5 +1,4 @@
 -- `columns::put_field` meets its contract: a number's text by its sign and its magnitude.
-use borrow.Author.Rules.{rules}
 use mathlib.Core.Path.{◌≡◌, refl, ◌∙◌}
 use lib.IntN.{nat_abs}
 use mir.Facts.{to_z-of_z}

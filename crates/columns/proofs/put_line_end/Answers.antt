@@ -2,7 +2,6 @@
 use mathlib.Core.Path.{refl}
 use lib.Seq.{set_split}
 use native.Mathlib.Numerals.{add-one}
-use borrow.Author.Rules.{rules}
 use Rattle.columns.proofs.put_line_end.Goals as goal
 
 pub returns : goal.returns

@@ -1,6 +1,5 @@
 -- `columns::sign_left` meets its contract.
 use native.Mathlib.Omega.{arith}
-use borrow.Author.Rules.{rules}
 use Rattle.columns.proofs.Laws.{sign_kept}
 use Rattle.columns.proofs.sign_left.Goals as goal
 

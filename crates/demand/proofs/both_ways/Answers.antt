@@ -12,7 +12,6 @@ use Rattle.accounts.specs.Batch.{batch_of}
 use Rattle.accounts.specs.Demand.{fresh}
 use Rattle.estivolh.specs.Account.{queries}
 use Rattle.demand.specs.Demand.{alike}
-use borrow.Author.Rules.{rules}
 use Rattle.demand.proofs.both_ways.Goals as goal
 
 pub slice_bounds-batch-end : goal.slice_bounds-batch-end

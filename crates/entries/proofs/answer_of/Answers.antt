@@ -3,7 +3,6 @@ use mathlib.Core.Path.{sym, ap, subst}
 use Prim.Native.Nat.{◌≤◌}
 use native.Mathlib.Omega.{arith}
 use Rattle.entries.specs.Ruling.{UpTo17, last_refusal, answer_of}
-use borrow.Author.Rules.{rules}
 use Rattle.entries.proofs.answer_of.Goals as goal
 
 pub overflow_add-result : goal.overflow_add-result

@@ -3,7 +3,6 @@ use Prim.Native.Nat.{◌+◌}
 use native.Mathlib.Omega.{arith}
 use borrow.Author.Tests.{lt-ltb, le-ltb}
 use Rattle.book.specs.Books.{account_max}
-use borrow.Author.Rules.{rules}
 use Rattle.entries.proofs.is_full.Goals as goal
 
 pub returns-then-total-n-gt-LIMIT : goal.returns-then-total-n-gt-LIMIT

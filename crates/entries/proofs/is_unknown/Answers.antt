@@ -6,7 +6,6 @@ use mir.Val.{SFits}
 use mir.Facts.{to_z-of_z}
 use Rattle.ranges.specs.Ranges.{not_below}
 use Rattle.entries.specs.Entry.{unknown_kind}
-use borrow.Author.Rules.{rules}
 use Rattle.entries.proofs.is_unknown.Goals as goal
 use Rattle.entries.proofs.is_unknown.Goals.{After-is_not_below}
 

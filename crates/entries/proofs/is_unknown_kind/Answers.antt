@@ -4,7 +4,6 @@ use mir.Syntax.{w64}
 use mir.Val.{SFits}
 use mir.Facts.{sfits_lit, to_z-of_z}
 use Rattle.whole.specs.Test.{bits-true, bits-false}
-use borrow.Author.Rules.{rules}
 use Rattle.entries.proofs.is_unknown_kind.Goals as goal
 
 one : SFits w64 (pos 1)

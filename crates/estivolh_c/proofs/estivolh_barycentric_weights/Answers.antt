@@ -7,7 +7,6 @@ use mir.Facts.{to_z-of_z}
 use borrow.Author.Tests.{lt-ltb, le-ltb}
 use Rattle.weights.specs.Barycentric.{Weights}
 use Rattle.slices.specs.Answers.{barycentric_left}
-use borrow.Author.Rules.{rules}
 use Rattle.estivolh_c.proofs.estivolh_barycentric_weights.Goals as goal
 
 pub returns-then-vertices-lt3 : goal.returns-then-vertices-lt3

@@ -1,7 +1,6 @@
 -- `estivolh_c::estivolh_batch` meets its contract: 2 for a short book, else what `estivolh::batch` leaves. Assumes nothing.
 use mathlib.Core.Path.{ap, ◌∙◌}
 use Prim.Native.Nat.{ℕ}
-use borrow.Author.Rules.{rules}
 use Rattle.book.specs.declared.Book.{Book}
 use Rattle.accounts.specs.Batch.{Outcome, batch_of}
 use Rattle.estivolh.specs.Account.{queries}

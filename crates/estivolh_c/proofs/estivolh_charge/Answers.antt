@@ -3,7 +3,6 @@ use mathlib.Core.Path.{ap, ◌∙◌}
 use Rattle.charge.specs.Charging.{Cost}
 use Rattle.slices.specs.Lent.{short, enough}
 use Rattle.slices.specs.Answers.{cost_left}
-use borrow.Author.Rules.{rules}
 use Rattle.estivolh_c.proofs.estivolh_charge.Goals as goal
 
 pub returns-then-charge-lt1 : goal.returns-then-charge-lt1

@@ -3,7 +3,6 @@ use mathlib.Core.Path.{ap, ◌∙◌}
 use Rattle.query.specs.Gradient.{Slope}
 use Rattle.slices.specs.Lent.{short, enough}
 use Rattle.slices.specs.Answers.{slope_left}
-use borrow.Author.Rules.{rules}
 use Rattle.estivolh_c.proofs.estivolh_estimate_gradient.Goals as goal
 
 pub returns-then-gradient-lt2 : goal.returns-then-gradient-lt2

@@ -3,7 +3,6 @@ use mathlib.Core.Path.{ap, ◌∙◌}
 use Rattle.book.specs.declared.Returned.{Returned}
 use Rattle.slices.specs.Lent.{short, enough}
 use Rattle.slices.specs.Answers.{returned_left}
-use borrow.Author.Rules.{rules}
 use Rattle.estivolh_c.proofs.estivolh_fresh.Goals as goal
 
 pub returns-then-book-lt-BOOK_NUMBERS : goal.returns-then-book-lt-BOOK_NUMBERS

@@ -8,7 +8,6 @@ use Rattle.writing.specs.Writing.{saved_left}
 use Rattle.writing.specs.Writing.Written.{wrote}
 use Rattle.slices.specs.Lent.{Left, short, enough}
 use Rattle.estivolh_c.specs.Writing.{text_left}
-use borrow.Author.Rules.{rules}
 use Rattle.estivolh_c.proofs.estivolh_insert.Goals as goal
 
 pub returns-then-found-lt1 : goal.returns-then-found-lt1

@@ -4,7 +4,6 @@ use mir.Facts.{to_z-of_z}
 use Rattle.values.specs.Value.{Answer}
 use Rattle.slices.specs.Lent.{short, enough}
 use Rattle.slices.specs.Answers.{value_left}
-use borrow.Author.Rules.{rules}
 use Rattle.estivolh_c.proofs.estivolh_interpolate.Goals as goal
 
 pub returns-then-value-lt1 : goal.returns-then-value-lt1

@@ -4,7 +4,6 @@ use mir.Facts.{to_z-of_z}
 use Rattle.query.specs.Location.{Located}
 use Rattle.slices.specs.Lent.{short, enough}
 use Rattle.slices.specs.Answers.{located_left}
-use borrow.Author.Rules.{rules}
 use Rattle.estivolh_c.proofs.estivolh_locate.Goals as goal
 
 pub returns-then-position-lt2 : goal.returns-then-position-lt2

@@ -5,7 +5,6 @@ use mir.Facts.{to_z-of_z}
 use Rattle.query.specs.Natural.{Edges}
 use Rattle.slices.specs.Lent.{Left, short, enough}
 use Rattle.estivolh_c.specs.Queries.{edges_left, edges_told}
-use borrow.Author.Rules.{rules}
 use Rattle.estivolh_c.proofs.estivolh_natural_neighbor_edges.Goals as goal
 
 pub returns-then-found-lt2 : goal.returns-then-found-lt2

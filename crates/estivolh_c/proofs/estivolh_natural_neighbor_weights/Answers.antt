@@ -6,7 +6,6 @@ use Rattle.query.specs.Natural.{Shares}
 use Rattle.slices.specs.Lent.{Left, short, enough}
 use Rattle.slices.specs.Answers.{weights_left}
 use Rattle.estivolh_c.specs.Queries.{shares_told}
-use borrow.Author.Rules.{rules}
 use Rattle.estivolh_c.proofs.estivolh_natural_neighbor_weights.Goals as goal
 
 pub returns-then-found-lt2 : goal.returns-then-found-lt2

@@ -4,7 +4,6 @@ use Prim.Native.Nat.{ℕ}
 use Rattle.writing.specs.Writing.{Saved}
 use Rattle.slices.specs.Lent.{Left, short, enough}
 use Rattle.estivolh_c.specs.Writing.{text_left, text_told}
-use borrow.Author.Rules.{rules}
 use Rattle.estivolh_c.proofs.estivolh_write_chart.Goals as goal
 
 pub returns-then-found-lt1 : goal.returns-then-found-lt1

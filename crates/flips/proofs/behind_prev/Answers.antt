@@ -1,6 +1,5 @@
 -- `flips::behind_prev` meets its contract: prev is in range, so it has a partner. Assumes nothing.
 use native.Mathlib.Omega.{arith}
-use borrow.Author.Rules.{rules}
 use Rattle.flips.proofs.behind_prev.Goals as goal
 
 pub partner_of-requires : goal.partner_of-requires

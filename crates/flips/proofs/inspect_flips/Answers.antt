@@ -1,16 +1,14 @@
 use mathlib.Core.Path.{◌≡◌, sym, ap, ◌∙◌}
 use mathlib.Core.Bool.{true}
 use mathlib.Core.List.{[]}
-use Prim.Native.Nat.{ℕ, ◌+◌, ◌-◌, ◌*◌, ◌<◌}
+use Prim.Native.Nat.{ℕ, ◌-◌, ◌<◌}
 use native.Mathlib.Omega.{arith}
-use borrow.Author.Rules.{rules}
 use Rattle.faceset.specs.Set.{add, has}
 use Rattle.chart.specs.Tables.{rows}
 use Rattle.chart.specs.Chart.{chart_of}
-use Rattle.flips.specs.Search.{found, should_flip, inspect_all, free}
-use Rattle.flips.specs.Stack.{stack_of}
+use Rattle.flips.specs.Search.{found, should_flip}
 use Rattle.flips.specs.Laws.{e1-in, e2-in}
-use Rattle.flips.proofs.Steps.{Held, border, opened, opened-less, begun, reached}
+use Rattle.flips.proofs.Steps.{border, opened, opened-less, begun, reached}
 use Rattle.flips.proofs.inspect_flips.Goals as goal
 use Rattle.flips.proofs.inspect_flips.Goals.{After-wide-h, Then-should_flip}
 

@@ -1,7 +1,6 @@
 -- `flips::is_in_circle` meets its contract: the three points are those of the definition. Assumes nothing.
 use native.Mathlib.Omega.{arith}
 use Rattle.flips.specs.Search.{in_circle}
-use borrow.Author.Rules.{rules}
 use Rattle.flips.proofs.is_in_circle.Goals as goal
 
 pub from_of-v2-requires : goal.from_of-v2-requires

@@ -3,7 +3,6 @@ use mathlib.Core.Path.{sym, ◌∙◌}
 use native.Mathlib.Omega.{arith}
 use borrow.Author.Tests.{eq-eqb, ne_eqb}
 use Rattle.flips.specs.Search.{should_flip}
-use borrow.Author.Rules.{rules}
 use Rattle.flips.proofs.should_flip.Goals as goal
 
 pub returns-then-f-eq0 : goal.returns-then-f-eq0

@@ -2,7 +2,6 @@
 use mathlib.Core.Path.{sym, ap}
 use lib.IntN.{ℤ, pos}
 use lib.Signed.{lt_z}
-use borrow.Author.Rules.{rules}
 use Rattle.whole.specs.Bound.{same_in, back, held}
 use Rattle.geometry.specs.Plane.{ends-in, side-in, minor-in}
 use Rattle.geometry.specs.Laws.{circle-power}

@@ -1,7 +1,6 @@
 -- `geometry::ends_seen` meets its contract: the vectors between places of the grid are near. Assumes nothing.
-use borrow.Author.Rules.{rules}
 use Rattle.whole.specs.Bound.{back}
-use Rattle.geometry.specs.Plane.{vector-near, ends-in}
+use Rattle.geometry.specs.Plane.{ends-in}
 use Rattle.geometry.proofs.ends_seen.Goals as goal
 
 pub returns : goal.returns

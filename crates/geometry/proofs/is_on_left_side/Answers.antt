@@ -1,5 +1,4 @@
 -- `geometry::is_on_left_side` meets its contract. Assumes nothing.
-use borrow.Author.Rules.{rules}
 use Rattle.whole.specs.Bound.{back}
 use Rattle.geometry.specs.Plane.{side-in}
 use Rattle.geometry.proofs.is_on_left_side.Goals as goal

@@ -2,7 +2,6 @@
 use mathlib.Core.Path.{sym, ap, ◌∙◌}
 use mir.Syntax.{w64}
 use mir.Val.{of_z}
-use borrow.Author.Rules.{rules}
 use Rattle.whole.specs.Bound.{fits, back}
 use Rattle.whole.specs.Test.{bits-true, bits-false, zero-fits}
 use Rattle.geometry.specs.Plane.{on_open_segment, ends-in, side-in}

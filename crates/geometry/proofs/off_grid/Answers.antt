@@ -4,7 +4,6 @@ use lib.IntN.{pos, neg_ℤ}
 use mir.Syntax.{w64}
 use mir.Val.{SFits}
 use mir.Facts.{to_z-of_z}
-use borrow.Author.Rules.{rules}
 use Rattle.whole.specs.Bound.{outside}
 use Rattle.geometry.specs.Plane.{grid_max, off_grid}
 use Rattle.geometry.proofs.off_grid.Goals as goal

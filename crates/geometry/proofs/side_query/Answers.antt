@@ -1,7 +1,6 @@
 -- `geometry::side_query` meets its contract: the vectors between places of the grid are near. Assumes nothing.
-use borrow.Author.Rules.{rules}
 use Rattle.whole.specs.Bound.{back}
-use Rattle.geometry.specs.Plane.{side, vector-near, side-in}
+use Rattle.geometry.specs.Plane.{side, side-in}
 use Rattle.geometry.proofs.side_query.Goals as goal
 
 pub returns : goal.returns

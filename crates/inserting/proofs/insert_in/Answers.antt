@@ -1,13 +1,11 @@
 -- `inserting::insert_in` meets its contract: a refusal of the vertex, or the text of the new tables. Assumes nothing.
-use mathlib.Core.Path.{sym, subst, ap, ◌∙◌}
+use mathlib.Core.Path.{subst, ap, ◌∙◌}
 use lib.IntN.{ℤ}
-use lib.Seq.{length-take-le}
 use mir.Facts.{to_z-of_z}
 use Rattle.reading.specs.Reading.{load_of}
 use Rattle.sites.specs.Insertion.{insert_refusal}
 use Rattle.insertion.specs.Extend.{Extends}
 use Rattle.inserting.specs.Laws.{refused-inserts, new-pass, small-edges, small-faces, insert-written}
-use borrow.Author.Rules.{rules}
 use Rattle.inserting.proofs.insert_in.Goals as goal
 
 pub returns-then-refusal-ne0 : goal.returns-then-refusal-ne0

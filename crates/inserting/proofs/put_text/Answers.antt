@@ -8,7 +8,6 @@ use lib.ListN.{length, drop, length-map, length-append}
 use lib.Seq.{length-take-le}
 use Rattle.writing.specs.Writing.{numbers_refusal, write_of}
 use Rattle.inserting.specs.Numbers.{edges_room, faces-room, handed}
-use borrow.Author.Rules.{rules}
 use Rattle.inserting.proofs.put_text.Goals as goal
 
 -- what was handed over is as long as the table

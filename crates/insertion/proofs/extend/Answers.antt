@@ -5,7 +5,6 @@ use lib.IntN.{ℤ}
 use mir.Facts.{to_z-of_z}
 use Rattle.sites.specs.Askable.{Askable, ask_refusal}
 use Rattle.insertion.specs.Extend.{front_of, Grew, extend-refused, extend-accepted, extend-askable, extend-asked, extend-grew}
-use borrow.Author.Rules.{rules}
 use Rattle.insertion.proofs.extend.Goals as goal
 
 pub returns-then-refusal-ne0 : goal.returns-then-refusal-ne0

@@ -10,7 +10,6 @@ use Rattle.accepted.specs.Accepted.{Accepted}
 use Rattle.rewire.specs.Grown.{old_of}
 use Rattle.sites.specs.Askable.{Askable}
 use Rattle.insertion.specs.Extend.{Grew, v-part, e-part, f-part, part_room, part-old, grow-left}
-use borrow.Author.Rules.{rules}
 use Rattle.insertion.proofs.grow.Goals as goal
 
 pub slice_bounds-insert_vertex-end : goal.slice_bounds-insert_vertex-end

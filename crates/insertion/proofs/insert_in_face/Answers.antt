@@ -8,7 +8,6 @@ use Rattle.patches.specs.Insert.{inserted}
 use Rattle.rewire.specs.Grown.{old_of}
 use Rattle.rewire.specs.Tables.{new_then}
 use Rattle.insertion.specs.Outcome.{face-asks, face-leaves}
-use borrow.Author.Rules.{rules}
 use Rattle.insertion.proofs.insert_in_face.Goals as goal
 
 pub insert_into_triangle-requires : goal.insert_into_triangle-requires

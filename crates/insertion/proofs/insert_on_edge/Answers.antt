@@ -8,7 +8,6 @@ use Rattle.patches.specs.Split.{split}
 use Rattle.rewire.specs.Grown.{old_of}
 use Rattle.rewire.specs.Tables.{new_then}
 use Rattle.insertion.specs.Outcome.{edge-asks, edge-leaves}
-use borrow.Author.Rules.{rules}
 use Rattle.insertion.proofs.insert_on_edge.Goals as goal
 
 pub split_edge-requires : goal.split_edge-requires

@@ -7,11 +7,9 @@ use lib.Seq.{length-take-le}
 use mir.Facts.{to_z-of_z}
 use Rattle.chart.specs.Chart.{Chart, chart_of}
 use Rattle.rewire.specs.Grown.{old_of}
-use Rattle.sites.specs.Askable.{Askable}
 use Rattle.sites.specs.Site.{face-site, edge-site}
 use Rattle.sites.specs.Joined.{Joined}
 use Rattle.insertion.specs.Outcome.{went-inside, went-across, stayed}
-use borrow.Author.Rules.{rules}
 use Rattle.insertion.proofs.insert_vertex.Goals as goal
 
 pub slice_bounds-site_at-end-2 : goal.slice_bounds-site_at-end-2

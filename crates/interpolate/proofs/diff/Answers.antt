@@ -1,5 +1,4 @@
 -- `interpolate::diff` meets its contract. Assumes nothing.
-use borrow.Author.Rules.{rules}
 use Rattle.interpolate.proofs.diff.Goals as goal
 
 pub returns : goal.returns

@@ -1,15 +1,14 @@
-use Prim.Native.Nat.{ℕ, ◌≤◌, ◌<◌, ◌-◌}
+use Prim.Native.Nat.{ℕ, ◌<◌}
 use mathlib.Core.Path.{◌≡◌, refl, sym, ap, subst, ◌∙◌}
 use mathlib.Core.Bool.{true, false}
 use native.Mathlib.Omega.{arith}
 use lib.Ieee.{eq}
-use lib.ListN.{length, drop, get_or}
+use lib.ListN.{get_or}
 use Rattle.chart.specs.Chart.{chart_of}
 use Rattle.points.specs.Floats.{f0}
 use Rattle.points.specs.Points.{point_length2}
-use Rattle.interpolate.specs.Values.{r2_of, value_blend, blend_from}
+use Rattle.interpolate.specs.Values.{r2_of}
 use Rattle.interpolate.proofs.Laws.{blend-at, blend_on_lem, blend-end}
-use borrow.Author.Rules.{rules}
 use Rattle.interpolate.proofs.value_blend.Goals as goal
 
 pub loop-i-init : goal.loop-i-init

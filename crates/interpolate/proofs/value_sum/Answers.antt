@@ -1,11 +1,7 @@
-use Prim.Native.Nat.{◌≤◌, ◌-◌}
-use mathlib.Core.Path.{◌≡◌, refl, sym, ◌∙◌}
+use mathlib.Core.Path.{refl, sym, ◌∙◌}
 use native.Mathlib.Omega.{arith}
-use lib.ListN.{length, drop}
 use Rattle.chart.specs.Chart.{chart_of}
-use Rattle.interpolate.specs.Values.{value_sum, sum_from}
 use Rattle.interpolate.proofs.Laws.{sum-on, sum-end}
-use borrow.Author.Rules.{rules}
 use Rattle.interpolate.proofs.value_sum.Goals as goal
 
 pub loop-i-init : goal.loop-i-init

@@ -1,12 +1,9 @@
 -- `interpolate::value_sum` meets its contract. The loop's invariant: the sum so far, continued by the rest, is the whole sum. Assumes nothing.
 use Prim.Native.Nat.{◌≤◌, ◌-◌}
-use mathlib.Core.Path.{◌≡◌, refl, sym, ◌∙◌}
-use native.Mathlib.Omega.{arith}
+use mathlib.Core.Path.{◌≡◌}
 use lib.ListN.{length, drop}
 use Rattle.chart.specs.Chart.{chart_of}
 use Rattle.interpolate.specs.Values.{value_sum, sum_from}
-use Rattle.interpolate.proofs.Laws.{sum-on, sum-end}
-use borrow.Author.Rules.{rules}
 use Rattle.interpolate.proofs.value_sum.Given as goal
 
 abbrev pub invariant-loop-i : goal.invariant-loop-i

@@ -1,5 +1,4 @@
 -- `interpolate::zeta` meets its contract. Assumes nothing.
-use borrow.Author.Rules.{rules}
 use Rattle.interpolate.proofs.zeta.Goals as goal
 
 pub value-h-requires : goal.value-h-requires

@@ -1,8 +1,8 @@
-use Prim.Native.Nat.{◌*◌, ◌-◌, ◌/◌, ◌≤◌, ◌<◌}
-use mathlib.Core.Path.{◌≡◌, refl, subst, ap, ◌∙◌}
+use Prim.Native.Nat.{◌*◌, ◌<◌}
+use mathlib.Core.Path.{refl, subst, ap, ◌∙◌}
 use native.Mathlib.Omega.{arith}
 use lib.IntN.{ℤ}
-use lib.ListN.{length, length-set}
+use lib.ListN.{length-set}
 use mir.Syntax.{w64}
 use mir.Val.{to_z, of_z}
 use Rattle.whole.specs.Bound.{back}

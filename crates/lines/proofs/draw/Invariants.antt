@@ -1,16 +1,9 @@
 -- `lines::draw` meets its contract. The loop's invariant: the lines of the edges passed stand in the table. Assumes nothing.
-use Prim.Native.Nat.{◌*◌, ◌-◌, ◌/◌, ◌≤◌, ◌<◌}
-use mathlib.Core.Path.{◌≡◌, refl, subst, ap, ◌∙◌}
-use native.Mathlib.Omega.{arith}
-use lib.IntN.{ℤ}
-use lib.ListN.{length, length-set}
-use mir.Syntax.{w64}
-use mir.Val.{to_z, of_z}
-use Rattle.whole.specs.Bound.{back}
-use Rattle.geometry.specs.declared.Place.{Place}
+use Prim.Native.Nat.{◌-◌, ◌/◌, ◌≤◌}
+use mathlib.Core.Path.{◌≡◌}
+use lib.ListN.{length}
 use Rattle.chart.specs.Chart.{chart_of}
-use Rattle.lines.specs.Lines.{Drawn, vector-in, offset-in, drawn-none, drawn-more}
-use borrow.Author.Rules.{rules}
+use Rattle.lines.specs.Lines.{Drawn}
 use Rattle.lines.proofs.draw.Given as goal
 
 abbrev pub invariant-loop-k : goal.invariant-loop-k

@@ -1,8 +1,6 @@
 -- `lines::offset_at` meets its contract: vector and place are near. Assumes nothing.
 use Rattle.whole.specs.Bound.{back}
-use Rattle.lines.specs.Lines.{from_in, vector-in, offset-in}
-use Rattle.geometry.specs.Plane.{grid-near}
-use borrow.Author.Rules.{rules}
+use Rattle.lines.specs.Lines.{offset-in}
 use Rattle.lines.proofs.offset_at.Goals as goal
 
 pub returns : goal.returns

@@ -11,7 +11,6 @@ use Rattle.geometry.specs.Plane.{area_max, Near, cross_of, grid-near, cross-in, 
 use Rattle.geometry.specs.Laws.{side-line}
 use Rattle.chart.specs.Chart.{Chart, chart_of}
 use Rattle.lines.specs.Lines.{vector_at, offset_at, from_in, to_in, vector-in, offset-in}
-use borrow.Author.Rules.{rules}
 use Rattle.lines.proofs.side_query.Goals as goal
 use Rattle.lines.proofs.side_query.Goals.{Start}
 

@@ -1,5 +1,4 @@
 -- `lines::vector_at` meets its contract: the ends are those of the definition. Assumes nothing.
-use borrow.Author.Rules.{rules}
 use Rattle.lines.proofs.vector_at.Goals as goal
 
 pub returns : goal.returns

@@ -1,10 +1,10 @@
-use Prim.Native.Nat.{◌+◌, ◌-◌, ◌<◌, ◌≤◌}
+use Prim.Native.Nat.{◌+◌, ◌<◌}
 use mathlib.Core.Path.{◌≡◌, refl}
-use mathlib.Core.List.{◌++◌, map}
+use mathlib.Core.List.{map}
 use native.Mathlib.Omega.{arith}
 use borrow.Author.Rules.{rules}
 use lib.Ieee.{nan}
-use lib.ListN.{length, take, drop, get_or, length-set}
+use lib.ListN.{length, take, get_or, length-set}
 use lib.Seq.{take-length, length-take-le}
 use Rattle.chart.specs.Tables.{origin_of}
 use Rattle.natural.specs.Arrays.{written, first_next, map_next, length-map-take}

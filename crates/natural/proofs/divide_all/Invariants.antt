@@ -1,14 +1,9 @@
 -- `natural::divide_all` meets its contract. The loop's invariant: the first i elements are divided, the others not yet. Assumes nothing.
-use Prim.Native.Nat.{◌+◌, ◌-◌, ◌<◌, ◌≤◌}
-use mathlib.Core.Path.{◌≡◌, refl}
+use Prim.Native.Nat.{◌-◌, ◌≤◌}
+use mathlib.Core.Path.{◌≡◌}
 use mathlib.Core.List.{◌++◌, map}
-use native.Mathlib.Omega.{arith}
-use borrow.Author.Rules.{rules}
-use lib.Ieee.{Float, nan}
-use lib.ListN.{length, take, drop, get_or, length-set}
-use lib.Seq.{take_at}
+use lib.ListN.{length, take, drop}
 use Rattle.points.specs.Floats.{◌/f◌}
-use Rattle.natural.specs.Arrays.{written, unwritten, map_next, length-map-take}
 use Rattle.natural.proofs.divide_all.Given as goal
 
 abbrev pub invariant-loop-i : goal.invariant-loop-i

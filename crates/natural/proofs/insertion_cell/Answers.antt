@@ -1,10 +1,8 @@
-use Prim.Native.Nat.{◌-◌, ◌≤◌}
 use mathlib.Core.Path.{◌≡◌, refl}
 use native.Mathlib.Omega.{arith}
 use borrow.Author.Rules.{rules}
 use lib.ListN.{length, length-set}
-use Rattle.chart.specs.Chart.{chart_of}
-use Rattle.natural.specs.Arrays.{corner_x, corner_y, Holds, holds-next}
+use Rattle.natural.specs.Arrays.{holds-next}
 use Rattle.natural.proofs.insertion_cell.Goals as goal
 
 pub loop-i-init : goal.loop-i-init

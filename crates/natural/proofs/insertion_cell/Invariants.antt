@@ -1,11 +1,9 @@
 -- `natural::insertion_cell` meets its contract. The loop's invariant: the first i elements hold the corners. Assumes nothing.
 use Prim.Native.Nat.{◌-◌, ◌≤◌}
-use mathlib.Core.Path.{◌≡◌, refl}
-use native.Mathlib.Omega.{arith}
-use borrow.Author.Rules.{rules}
-use lib.ListN.{length, length-set}
+use mathlib.Core.Path.{◌≡◌}
+use lib.ListN.{length}
 use Rattle.chart.specs.Chart.{chart_of}
-use Rattle.natural.specs.Arrays.{corner_x, corner_y, Holds, holds-next}
+use Rattle.natural.specs.Arrays.{corner_x, corner_y, Holds}
 use Rattle.natural.proofs.insertion_cell.Given as goal
 
 abbrev pub invariant-loop-i : goal.invariant-loop-i

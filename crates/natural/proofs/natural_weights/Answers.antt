@@ -1,6 +1,5 @@
 -- `natural::natural_weights` meets its contract. Assumes nothing.
 use native.Mathlib.Omega.{arith}
-use borrow.Author.Rules.{rules}
 use Rattle.chart.specs.Chart.{chart_of}
 use Rattle.natural.specs.Natural.{shares_of}
 use Rattle.natural.specs.Laws.{settled-whole}

@@ -1,13 +1,9 @@
 -- `natural::to_origins` meets its contract. The loop's invariant: the first i elements are starts, the others not yet. Assumes nothing.
-use Prim.Native.Nat.{◌+◌, ◌-◌, ◌<◌, ◌≤◌}
-use mathlib.Core.Path.{◌≡◌, refl}
+use Prim.Native.Nat.{◌-◌, ◌≤◌}
+use mathlib.Core.Path.{◌≡◌}
 use mathlib.Core.List.{◌++◌, map}
-use native.Mathlib.Omega.{arith}
-use borrow.Author.Rules.{rules}
-use lib.ListN.{length, take, drop, get_or, length-set}
-use lib.Seq.{take_at}
+use lib.ListN.{length, take, drop}
 use Rattle.chart.specs.Tables.{origin_of}
-use Rattle.natural.specs.Arrays.{written, unwritten, map_next, length-map-take}
 use Rattle.natural.proofs.to_origins.Given as goal
 
 abbrev pub invariant-loop-i : goal.invariant-loop-i

@@ -1,14 +1,12 @@
-use Prim.Native.Nat.{◌-◌, ◌<◌, ◌≤◌}
+use Prim.Native.Nat.{◌-◌, ◌<◌}
 use mathlib.Core.Path.{◌≡◌, refl, sym, ◌∙◌}
 use native.Mathlib.Nat.{le_refl}
 use native.Mathlib.Omega.{arith}
 use borrow.Author.Rules.{rules}
-use lib.ListN.{length, take, drop, length-set}
-use Rattle.chart.specs.Tables.{rows}
+use lib.ListN.{length, take, length-set}
 use Rattle.chart.specs.Chart.{chart_of}
-use Rattle.natural.specs.Natural.{shares_from, cell_shares}
 use Rattle.natural.specs.Laws.{shares-on, shares-end}
-use Rattle.natural.specs.Arrays.{corner_x, Holds, holds-past, corner-back, area-next}
+use Rattle.natural.specs.Arrays.{corner_x, holds-past, corner-back, area-next}
 use Rattle.natural.proofs.turn_all.Goals as goal
 
 pub loop-i-init : goal.loop-i-init

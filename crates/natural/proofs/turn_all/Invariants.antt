@@ -1,15 +1,11 @@
 -- `natural::turn_all` meets its contract. The loop's invariant: the definition's answer is that of the listed edges that are left, whose corners still stand. Assumes nothing.
 use Prim.Native.Nat.{◌-◌, ◌<◌, ◌≤◌}
-use mathlib.Core.Path.{◌≡◌, refl, sym, ◌∙◌}
-use native.Mathlib.Nat.{le_refl}
-use native.Mathlib.Omega.{arith}
-use borrow.Author.Rules.{rules}
-use lib.ListN.{length, take, drop, length-set}
+use mathlib.Core.Path.{◌≡◌}
+use lib.ListN.{length, take, drop}
 use Rattle.chart.specs.Tables.{rows}
 use Rattle.chart.specs.Chart.{chart_of}
 use Rattle.natural.specs.Natural.{shares_from, cell_shares}
-use Rattle.natural.specs.Laws.{shares-on, shares-end}
-use Rattle.natural.specs.Arrays.{corner_x, Holds, holds-past, corner-back, area-next}
+use Rattle.natural.specs.Arrays.{corner_x, Holds}
 use Rattle.natural.proofs.turn_all.Given as goal
 
 abbrev pub invariant-loop-i : goal.invariant-loop-i

@@ -1,6 +1,5 @@
 -- `natural::two_shares` meets its contract, by what the calls ensure. Assumes nothing.
 use native.Mathlib.Omega.{arith}
-use borrow.Author.Rules.{rules}
 use Rattle.natural.specs.Arrays.{two-first}
 use Rattle.natural.proofs.two_shares.Goals as goal
 

@@ -1,7 +1,6 @@
 -- `neighbors::edge_neighbors` meets its contract: the test is as it was found. Assumes nothing.
 use mathlib.Core.Path.{sym, ◌∙◌}
 use Rattle.neighbors.specs.Neighbors.{edge_neighbors}
-use borrow.Author.Rules.{rules}
 use Rattle.neighbors.proofs.edge_neighbors.Goals as goal
 
 pub returns-then-is_part_of_convex_hull : goal.returns-then-is_part_of_convex_hull

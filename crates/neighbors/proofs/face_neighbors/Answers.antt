@@ -8,7 +8,6 @@ use Rattle.chart.specs.Chart.{partner-in}
 use Rattle.flips.specs.Laws.{e1-in, e2-in}
 use Rattle.neighbors.specs.Neighbors.{face_neighbors}
 use Rattle.neighbors.proofs.Ends.{ready-three, ended}
-use borrow.Author.Rules.{rules}
 use Rattle.neighbors.proofs.face_neighbors.Goals as goal
 use Rattle.neighbors.proofs.face_neighbors.Goals.{After-adjacent_of-h, After-behind_prev-c, After-insert-opened}
 

@@ -1,7 +1,6 @@
 -- `neighbors::finish` meets its contract: the list is reversed and the opened faces are counted. Assumes nothing.
 use Rattle.neighbors.specs.Neighbors.{counts}
 use mathlib.Core.Path.{ap}
-use borrow.Author.Rules.{rules}
 use Rattle.neighbors.proofs.finish.Goals as goal
 
 pub returns : goal.returns

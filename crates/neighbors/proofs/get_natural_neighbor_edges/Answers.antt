@@ -1,7 +1,6 @@
 -- `neighbors::get_natural_neighbor_edges` meets its contract: each arm is a case of the definition. Assumes nothing.
 use native.Mathlib.Omega.{arith}
 use Rattle.neighbors.specs.Neighbors.{neighbors_of, written}
-use borrow.Author.Rules.{rules}
 use Rattle.neighbors.proofs.get_natural_neighbor_edges.Goals as goal
 
 pub vertex_neighbors-requires : goal.vertex_neighbors-requires

@@ -2,7 +2,6 @@
 use mathlib.Core.Path.{ap}
 use Rattle.neighbors.specs.Neighbors.{outcome, counts, written}
 use Rattle.neighbors.proofs.Ends.{set-two}
-use borrow.Author.Rules.{rules}
 use Rattle.neighbors.proofs.hull_edge_neighbors.Goals as goal
 
 pub returns : goal.returns

@@ -5,7 +5,6 @@ use Rattle.chart.specs.Tables.{rows}
 use Rattle.chart.specs.Chart.{partner-in}
 use Rattle.neighbors.specs.Neighbors.{inner_edge_neighbors}
 use Rattle.neighbors.proofs.Ends.{ready-two, ended}
-use borrow.Author.Rules.{rules}
 use Rattle.neighbors.proofs.inner_edge_neighbors.Goals as goal
 use Rattle.neighbors.proofs.inner_edge_neighbors.Goals.{After-partner_of}
 

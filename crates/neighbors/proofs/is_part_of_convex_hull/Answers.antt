@@ -1,7 +1,6 @@
 -- `neighbors::is_part_of_convex_hull` meets its contract: the partner is in range. Assumes nothing.
 use Rattle.chart.specs.Chart.{partner-in}
 use borrow.Author.Tests.{eq-eqb, ne_eqb}
-use borrow.Author.Rules.{rules}
 use Rattle.neighbors.proofs.is_part_of_convex_hull.Goals as goal
 
 pub returns-then-face_of-eq0 : goal.returns-then-face_of-eq0

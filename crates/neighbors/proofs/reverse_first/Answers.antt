@@ -1,10 +1,7 @@
-use borrow.Author.Rules.{rules}
-use mathlib.Core.Path.{◌≡◌, refl}
-use mathlib.Core.List.{reverse, ◌++◌}
-use Prim.Native.Nat.{◌-◌, ◌≤◌}
+use mathlib.Core.Path.{refl}
 use native.Mathlib.Omega.{arith}
-use lib.ListN.{length, take, drop, length-set}
-use Rattle.neighbors.proofs.Reverse.{Mid, mid_start, mid_step, mid_done}
+use lib.ListN.{length-set}
+use Rattle.neighbors.proofs.Reverse.{mid_start, mid_step, mid_done}
 use Rattle.neighbors.proofs.reverse_first.Goals as goal
 
 pub loop-i-init : goal.loop-i-init

@@ -1,6 +1,5 @@
 -- `neighbors::stack_three` meets its contract: one more store on a stack of two. Assumes nothing.
 use Rattle.neighbors.proofs.Ends.{three-stacked}
-use borrow.Author.Rules.{rules}
 use Rattle.neighbors.proofs.stack_three.Goals as goal
 
 pub returns : goal.returns

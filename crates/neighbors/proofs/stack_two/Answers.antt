@@ -2,7 +2,6 @@
 use mathlib.Core.Path.{refl}
 use mathlib.Core.List.{[], ◌∷◌}
 use Rattle.flips.specs.Stack.{stack_of}
-use borrow.Author.Rules.{rules}
 use Rattle.neighbors.proofs.stack_two.Goals as goal
 
 pub returns : goal.returns

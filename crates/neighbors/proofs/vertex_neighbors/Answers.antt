@@ -2,7 +2,6 @@
 use mathlib.Core.Path.{ap}
 use Rattle.neighbors.specs.Neighbors.{outcome, counts, written}
 use Rattle.neighbors.proofs.Ends.{set-one}
-use borrow.Author.Rules.{rules}
 use Rattle.neighbors.proofs.vertex_neighbors.Goals as goal
 
 pub returns : goal.returns

@@ -1,11 +1,10 @@
-use Prim.Native.Nat.{ℕ, ◌+◌, ◌≤◌, ◌-◌}
+use Prim.Native.Nat.{ℕ, ◌+◌}
 use mathlib.Core.Path.{◌≡◌, refl, ap, ◌∙◌}
 use mathlib.Core.List.{List, ◌++◌}
 use native.Mathlib.Omega.{arith}
 use lib.ListN.{length, take, drop, length-set}
 use lib.Seq.{length-take-le, take_all}
 use Rattle.natural.specs.Arrays.{written, first_next}
-use borrow.Author.Rules.{rules}
 use Rattle.query.proofs.copy_list.Goals as goal
 
 pub loop-i-init : goal.loop-i-init

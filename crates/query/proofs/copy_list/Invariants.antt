@@ -1,12 +1,8 @@
 -- `query::copy_list` meets its contract. The loop's invariant: the elements passed are copied, the others as they were. Assumes nothing.
-use Prim.Native.Nat.{ℕ, ◌+◌, ◌≤◌, ◌-◌}
-use mathlib.Core.Path.{◌≡◌, refl, ap, ◌∙◌}
-use mathlib.Core.List.{List, ◌++◌}
-use native.Mathlib.Omega.{arith}
-use lib.ListN.{length, take, drop, length-set}
-use lib.Seq.{length-take-le, take_all}
-use Rattle.natural.specs.Arrays.{written, first_next}
-use borrow.Author.Rules.{rules}
+use Prim.Native.Nat.{◌≤◌, ◌-◌}
+use mathlib.Core.Path.{◌≡◌}
+use mathlib.Core.List.{◌++◌}
+use lib.ListN.{length, take, drop}
 use Rattle.query.proofs.copy_list.Given as goal
 
 abbrev pub invariant-loop-i : goal.invariant-loop-i

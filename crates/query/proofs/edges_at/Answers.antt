@@ -6,7 +6,6 @@ use Rattle.chart.specs.Chart.{chart_of}
 use Rattle.neighbors.specs.Neighbors.{neighbors_of}
 use Rattle.neighbors.specs.Answers.{answer-count, answer-opened, answer-edges}
 use Rattle.cavity.specs.Room.{roomy, list-within}
-use borrow.Author.Rules.{rules}
 use Rattle.query.proofs.edges_at.Goals as goal
 
 pub get_natural_neighbor_edges-found-requires : goal.get_natural_neighbor_edges-found-requires

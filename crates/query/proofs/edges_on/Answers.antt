@@ -4,7 +4,6 @@ use Rattle.geometry.specs.Plane.{on-grid}
 use Rattle.chart.specs.Chart.{chart_of}
 use Rattle.locate.proofs.Laws.{located}
 use Rattle.query.specs.Natural.{edges_on, edges-found, edges-turned}
-use borrow.Author.Rules.{rules}
 use Rattle.query.proofs.edges_on.Goals as goal
 
 pub returns-then-off_grid : goal.returns-then-off_grid

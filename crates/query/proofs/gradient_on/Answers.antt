@@ -1,7 +1,6 @@
 -- `query::gradient_on` meets its contract. Assumes nothing.
 use borrow.Author.Tests.{lt-ltb, le-ltb}
 use Rattle.query.specs.Gradient.{gradient_on}
-use borrow.Author.Rules.{rules}
 use Rattle.query.proofs.gradient_on.Goals as goal
 
 pub returns-then-v-vertices : goal.returns-then-v-vertices

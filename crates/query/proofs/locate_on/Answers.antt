@@ -3,7 +3,6 @@ use mathlib.Core.Path.{sym, ap, ◌∙◌}
 use Rattle.geometry.specs.Plane.{on-grid}
 use Rattle.query.specs.Location.{locate_on}
 use Rattle.query.specs.Location.Located.{at}
-use borrow.Author.Rules.{rules}
 use Rattle.query.proofs.locate_on.Goals as goal
 
 pub returns-then-off_grid : goal.returns-then-off_grid

@@ -1,7 +1,6 @@
 -- `query::position` meets its contract. Assumes nothing.
 use mathlib.Core.Path.{sym, ap}
 use Rattle.query.specs.Location.Located.{at}
-use borrow.Author.Rules.{rules}
 use Rattle.query.proofs.position.Goals as goal
 
 pub returns-in-OnVertex : goal.returns-in-OnVertex

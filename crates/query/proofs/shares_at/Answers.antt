@@ -12,7 +12,6 @@ use Rattle.natural.specs.Natural.{natural_weights_of}
 use Rattle.cavity.specs.Room.{roomy, list-within}
 use Rattle.cavity.specs.Listed.{listed_below}
 use Rattle.query.specs.Natural.{shares_settled}
-use borrow.Author.Rules.{rules}
 use Rattle.query.proofs.shares_at.Goals as goal
 
 pub get_natural_neighbor_edges-found-requires : goal.get_natural_neighbor_edges-found-requires

@@ -4,7 +4,6 @@ use Rattle.geometry.specs.Plane.{on-grid}
 use Rattle.chart.specs.Chart.{chart_of}
 use Rattle.locate.proofs.Laws.{located}
 use Rattle.query.specs.Natural.{shares_on, shares-found, shares-turned}
-use borrow.Author.Rules.{rules}
 use Rattle.query.proofs.shares_on.Goals as goal
 
 pub returns-then-off_grid : goal.returns-then-off_grid

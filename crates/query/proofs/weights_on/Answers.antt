@@ -4,7 +4,6 @@ use Rattle.geometry.specs.Plane.{on-grid}
 use Rattle.chart.specs.Chart.{chart_of}
 use Rattle.values.specs.Located.{barycentric_at}
 use Rattle.query.specs.Weights.{barycentric_on}
-use borrow.Author.Rules.{rules}
 use Rattle.query.proofs.weights_on.Goals as goal
 
 pub returns-then-off_grid : goal.returns-then-off_grid

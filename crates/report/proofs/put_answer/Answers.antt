@@ -7,7 +7,6 @@ use Rattle.columns.specs.Printed.{line_feed, printed}
 use Rattle.report.specs.Lines.{answer_line}
 use Rattle.columns.specs.Laid.{then-laid}
 use Rattle.text.specs.RoundTrip.{field-length}
-use borrow.Author.Rules.{rules}
 use Rattle.report.proofs.put_answer.Goals as goal
 
 pub returns : goal.returns

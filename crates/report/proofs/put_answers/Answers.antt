@@ -1,13 +1,12 @@
-use Prim.Native.Nat.{ℕ, ◌+◌, ◌*◌, ◌-◌, ◌≤◌, ◌<◌}
+use Prim.Native.Nat.{ℕ, ◌+◌, ◌*◌, ◌<◌}
 use mathlib.Core.Path.{◌≡◌, refl, ap, ◌∙◌}
 use native.Mathlib.Omega.{arith}
 use lib.ListN.{length, take, get_or}
 use lib.Seq.{length-take-le, take-length}
 use Rattle.report.specs.Lines.{answer_bytes, answer_line, answer_lines}
-use Rattle.columns.specs.Laid.{laid, laid_none, then-laid}
+use Rattle.columns.specs.Laid.{laid_none, then-laid}
 use Rattle.report.specs.Laws.{answers-length}
 use Rattle.report.proofs.Laws.{answers-none, answers_next}
-use borrow.Author.Rules.{rules}
 use Rattle.report.proofs.put_answers.Goals as goal
 
 pub loop-i-init : goal.loop-i-init

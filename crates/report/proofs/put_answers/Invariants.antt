@@ -1,14 +1,9 @@
 -- `report::put_answers` meets its contract. The invariant: the lines of the answers passed are put.
-use Prim.Native.Nat.{ℕ, ◌+◌, ◌*◌, ◌-◌, ◌≤◌, ◌<◌}
-use mathlib.Core.Path.{◌≡◌, refl, ap, ◌∙◌}
-use native.Mathlib.Omega.{arith}
-use lib.ListN.{length, take, get_or}
-use lib.Seq.{length-take-le, take-length}
-use Rattle.report.specs.Lines.{answer_bytes, answer_line, answer_lines}
-use Rattle.columns.specs.Laid.{laid, laid_none, then-laid}
-use Rattle.report.specs.Laws.{answers-length}
-use Rattle.report.proofs.Laws.{answers-none, answers_next}
-use borrow.Author.Rules.{rules}
+use Prim.Native.Nat.{◌*◌, ◌-◌, ◌≤◌}
+use mathlib.Core.Path.{◌≡◌}
+use lib.ListN.{length, take}
+use Rattle.report.specs.Lines.{answer_bytes, answer_lines}
+use Rattle.columns.specs.Laid.{laid}
 use Rattle.report.proofs.put_answers.Given as goal
 
 abbrev pub invariant-loop-i : goal.invariant-loop-i

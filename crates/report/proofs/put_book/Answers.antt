@@ -4,7 +4,6 @@ use native.Mathlib.Omega.{arith}
 use Rattle.report.specs.Lines.{section_bytes, section_lines, retired_line, book_lines, program_sections}
 use Rattle.columns.specs.Laid.{then-laid}
 use Rattle.report.specs.Laws.{sections-length}
-use borrow.Author.Rules.{rules}
 use Rattle.report.proofs.put_book.Goals as goal
 
 pub returns : goal.returns

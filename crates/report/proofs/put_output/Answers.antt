@@ -5,7 +5,6 @@ use lib.ListN.{length}
 use Rattle.report.specs.Lines.{answer_bytes, answer_lines, book_lines, output_of}
 use Rattle.columns.specs.Laid.{then-laid}
 use Rattle.report.specs.Laws.{answers-length}
-use borrow.Author.Rules.{rules}
 use Rattle.report.proofs.put_output.Goals as goal
 
 pub returns : goal.returns

@@ -1,9 +1,9 @@
-use Prim.Native.Nat.{◌+◌, ◌*◌, ◌-◌, ◌≤◌}
+use Prim.Native.Nat.{◌*◌}
 use mathlib.Core.Path.{◌≡◌, refl, ◌∙◌}
 use native.Mathlib.Omega.{arith}
-use lib.ListN.{length, get_or}
+use lib.ListN.{get_or}
 use Rattle.report.specs.Lines.{section_bytes, section_line, section_lines, program_sections}
-use Rattle.columns.specs.Laid.{laid, laid_none, then-laid}
+use Rattle.columns.specs.Laid.{laid_none, then-laid}
 use Rattle.report.specs.Laws.{sections-length}
 use Rattle.report.proofs.Laws.{sections-none, sections-next}
 use Rattle.report.proofs.put_sections.Goals as goal

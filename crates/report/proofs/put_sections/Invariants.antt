@@ -1,12 +1,9 @@
 -- `report::put_sections` meets its contract. The invariant: the lines of the sections passed are put.
 use Prim.Native.Nat.{◌+◌, ◌*◌, ◌-◌, ◌≤◌}
-use mathlib.Core.Path.{◌≡◌, refl, ◌∙◌}
-use native.Mathlib.Omega.{arith}
-use lib.ListN.{length, get_or}
-use Rattle.report.specs.Lines.{section_bytes, section_line, section_lines, program_sections}
-use Rattle.columns.specs.Laid.{laid, laid_none, then-laid}
-use Rattle.report.specs.Laws.{sections-length}
-use Rattle.report.proofs.Laws.{sections-none, sections-next}
+use mathlib.Core.Path.{◌≡◌}
+use lib.ListN.{length}
+use Rattle.report.specs.Lines.{section_bytes, section_lines, program_sections}
+use Rattle.columns.specs.Laid.{laid}
 use Rattle.report.proofs.put_sections.Given as goal
 
 abbrev pub invariant-loop-s : goal.invariant-loop-s

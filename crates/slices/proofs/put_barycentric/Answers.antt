@@ -3,7 +3,6 @@ use mathlib.Core.Path.{sym, ap, ◌∙◌}
 use Rattle.weights.specs.declared.BarycentricWeights.{BarycentricWeights}
 use Rattle.weights.specs.Barycentric.{weights_say}
 use Rattle.slices.specs.Answers.{barycentric_left}
-use borrow.Author.Rules.{rules}
 use Rattle.slices.proofs.put_barycentric.Goals as goal
 
 pub returns-in-Refused : goal.returns-in-Refused

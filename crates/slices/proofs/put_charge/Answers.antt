@@ -4,7 +4,6 @@ use Rattle.charge.specs.declared.Charged.{Charged}
 use Rattle.charge.specs.Charging.{charge_says}
 use Rattle.slices.specs.Lent.{left}
 use Rattle.slices.specs.Answers.{cost_left}
-use borrow.Author.Rules.{rules}
 use Rattle.slices.proofs.put_charge.Goals as goal
 
 pub returns-in-Refused : goal.returns-in-Refused

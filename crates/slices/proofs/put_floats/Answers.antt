@@ -1,4 +1,4 @@
-use Prim.Native.Nat.{ℕ, ◌+◌, ◌≤◌, ◌-◌}
+use Prim.Native.Nat.{ℕ, ◌+◌}
 use mathlib.Core.Path.{◌≡◌, refl, ap, ◌∙◌}
 use mathlib.Core.List.{List, ◌++◌}
 use native.Mathlib.Omega.{arith}
@@ -6,7 +6,6 @@ use lib.ListN.{length, take, drop, length-set}
 use lib.Ieee.{Float, nan}
 use lib.Seq.{length-take-le, take_all}
 use Rattle.natural.specs.Arrays.{written, first_next}
-use borrow.Author.Rules.{rules}
 use Rattle.slices.proofs.put_floats.Goals as goal
 
 pub loop-i-init : goal.loop-i-init

@@ -4,7 +4,6 @@ use Rattle.query.specs.declared.EstimatedGradient.{EstimatedGradient}
 use Rattle.query.specs.Gradient.{gradient_says}
 use Rattle.slices.specs.Lent.{left}
 use Rattle.slices.specs.Answers.{slope_left}
-use borrow.Author.Rules.{rules}
 use Rattle.slices.proofs.put_gradient.Goals as goal
 
 pub returns-in-Refused : goal.returns-in-Refused

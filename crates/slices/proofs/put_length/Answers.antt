@@ -4,7 +4,6 @@ use Rattle.writing.specs.declared.WrittenChart.{WrittenChart}
 use Rattle.writing.specs.Writing.{written_says}
 use Rattle.slices.specs.Lent.{left}
 use Rattle.slices.specs.Answers.{length_left}
-use borrow.Author.Rules.{rules}
 use Rattle.slices.proofs.put_length.Goals as goal
 
 pub returns-in-Refused : goal.returns-in-Refused

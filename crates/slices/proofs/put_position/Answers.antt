@@ -4,7 +4,6 @@ use Rattle.query.specs.declared.PositionInTriangulation.{PositionInTriangulation
 use Rattle.query.specs.Location.{position_says}
 use Rattle.slices.specs.Lent.{left}
 use Rattle.slices.specs.Answers.{located_left}
-use borrow.Author.Rules.{rules}
 use Rattle.slices.proofs.put_position.Goals as goal
 
 pub returns-in-Refused : goal.returns-in-Refused

@@ -1,6 +1,5 @@
 -- `slices::put_returned` meets its contract. Assumes nothing.
 use mathlib.Core.Path.{sym, ap}
-use borrow.Author.Rules.{rules}
 use Rattle.slices.specs.Lent.{left, kept-refused}
 use Rattle.slices.specs.Books.{numbers_of}
 use Rattle.slices.proofs.put_returned.Goals as goal

@@ -4,7 +4,6 @@ use Rattle.query.specs.declared.NaturalNeighbors.{NaturalNeighbors}
 use Rattle.query.specs.Natural.{neighbors_say}
 use Rattle.slices.specs.Lent.{left}
 use Rattle.slices.specs.Answers.{tally_left}
-use borrow.Author.Rules.{rules}
 use Rattle.slices.proofs.put_tally.Goals as goal
 
 pub returns-in-Refused : goal.returns-in-Refused

@@ -4,7 +4,6 @@ use Rattle.values.specs.declared.InterpolatedValue.{InterpolatedValue}
 use Rattle.values.specs.Value.{value_says}
 use Rattle.slices.specs.Lent.{left}
 use Rattle.slices.specs.Answers.{value_left}
-use borrow.Author.Rules.{rules}
 use Rattle.slices.proofs.put_value.Goals as goal
 
 pub returns-in-Refused : goal.returns-in-Refused

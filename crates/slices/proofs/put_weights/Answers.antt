@@ -6,7 +6,6 @@ use lib.Ieee.{Float}
 use Rattle.accounts.specs.Batch.{overlay}
 use Rattle.slices.specs.Lent.{paste-front}
 use Rattle.slices.specs.Answers.{weights_left}
-use borrow.Author.Rules.{rules}
 use Rattle.slices.proofs.put_weights.Goals as goal
 
 pub returns : goal.returns

@@ -1,5 +1,4 @@
 -- `slices::read_book` meets its contract. Assumes nothing.
-use borrow.Author.Rules.{rules}
 use Rattle.slices.proofs.read_book.Goals as goal
 
 pub returns : goal.returns

@@ -1,15 +1,12 @@
-use Prim.Native.Nat.{◌≤◌, ◌-◌, ◌+◌, ◌*◌}
-use mathlib.Core.Path.{◌≡◌, refl, sym, ◌∙◌}
+use Prim.Native.Nat.{◌+◌}
+use mathlib.Core.Path.{refl, sym, ◌∙◌}
 use native.Mathlib.Omega.{arith}
 use native.Mathlib.Nat.{sub-zero}
 use mir.Facts.{to_z-of_z}
 use mir.Syntax.{w64}
 use mir.Val.{SFits}
-use Rattle.text.specs.Field.{field_width}
-use lib.ListN.{length, take, drop, length-set, length-take, length-drop}
-use Rattle.tables.specs.Table.{line_of, before}
+use lib.ListN.{length, length-set, length-take, length-drop}
 use Rattle.tables.proofs.Laws.{before-nil, line-again, line-fails, line-ends}
-use borrow.Author.Rules.{rules}
 use Rattle.tables.proofs.fields.Goals as goal
 
 pub loop-j-init : goal.loop-j-init

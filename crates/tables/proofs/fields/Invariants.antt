@@ -1,16 +1,9 @@
 -- `tables::fields` meets its contract. The invariant: what the line holds is the numbers read, before what the rest of the line holds.
 use Prim.Native.Nat.{◌≤◌, ◌-◌, ◌+◌, ◌*◌}
-use mathlib.Core.Path.{◌≡◌, refl, sym, ◌∙◌}
-use native.Mathlib.Omega.{arith}
-use native.Mathlib.Nat.{sub-zero}
-use mir.Facts.{to_z-of_z}
-use mir.Syntax.{w64}
-use mir.Val.{SFits}
+use mathlib.Core.Path.{◌≡◌}
 use Rattle.text.specs.Field.{field_width}
-use lib.ListN.{length, take, drop, length-set, length-take, length-drop}
+use lib.ListN.{length, take, drop}
 use Rattle.tables.specs.Table.{line_of, before}
-use Rattle.tables.proofs.Laws.{before-nil, line-again, line-fails, line-ends}
-use borrow.Author.Rules.{rules}
 use Rattle.tables.proofs.fields.Given as goal
 
 abbrev pub invariant-loop-j : goal.invariant-loop-j

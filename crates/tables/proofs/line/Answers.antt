@@ -1,5 +1,4 @@
 -- `tables::line` meets its contract: a line is a table of one.
-use borrow.Author.Rules.{rules}
 use mathlib.Core.Path.{sym, ◌∙◌}
 use lib.ListN.{length, drop}
 use Rattle.tables.proofs.Laws.{table-one}

@@ -1,5 +1,4 @@
 -- `tables::start` meets its contract: the entry is its formula.
-use borrow.Author.Rules.{rules}
 use Rattle.tables.proofs.start.Goals as goal
 
 pub returns : goal.returns

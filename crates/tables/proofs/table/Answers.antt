@@ -6,12 +6,11 @@ use mathlib.Core.Bool.{true, false}
 use borrow.Rule.Slice.PartMut.{same_len_mid}
 use lib.Seq.{take_all}
 use borrow.Author.Tests.{not-true, not-false}
-use lib.ListN.{length, take, drop}
-use Rattle.tables.specs.Table.{table_of, line_bytes, before}
+use lib.ListN.{length, take}
+use Rattle.tables.specs.Table.{line_bytes}
 use Rattle.tables.specs.Table.Cells.{cells}
 use Rattle.tables.specs.Size.{row-less}
 use Rattle.tables.proofs.Laws.{before-nil, table-again, table-fails, table-ends, part_length, part-back, part-line}
-use borrow.Author.Rules.{rules}
 use Rattle.tables.proofs.table.Goals as goal
 
 pub loop-i-init : goal.loop-i-init

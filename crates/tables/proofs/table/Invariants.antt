@@ -1,18 +1,9 @@
 -- `tables::table` meets its contract. The invariant: what the table holds is the numbers of the lines read, before what the rest of the table holds.
-use Prim.Native.Nat.{ℕ, ◌≤◌, ◌-◌, ◌+◌, ◌*◌}
-use mathlib.Core.Path.{◌≡◌, refl, ap, sym, ◌∙◌}
-use native.Mathlib.Omega.{arith}
-use native.Mathlib.Nat.{sub-zero, zero-add}
-use mathlib.Core.Bool.{true, false}
-use borrow.Rule.Slice.PartMut.{same_len_mid}
-use lib.Seq.{take_all}
-use borrow.Author.Tests.{not-true, not-false}
+use Prim.Native.Nat.{◌≤◌, ◌-◌, ◌+◌, ◌*◌}
+use mathlib.Core.Path.{◌≡◌}
 use lib.ListN.{length, take, drop}
 use Rattle.tables.specs.Table.{table_of, line_bytes, before}
 use Rattle.tables.specs.Table.Cells.{cells}
-use Rattle.tables.specs.Size.{row-less}
-use Rattle.tables.proofs.Laws.{before-nil, table-again, table-fails, table-ends, part_length, part-back, part-line}
-use borrow.Author.Rules.{rules}
 use Rattle.tables.proofs.table.Given as goal
 
 abbrev pub invariant-loop-i : goal.invariant-loop-i

@@ -2,7 +2,6 @@
 use mathlib.Core.Path.{sym, ◌∙◌}
 use Rattle.chart.specs.Chart.{chart_of}
 use Rattle.values.specs.Value.{located_value, value_found, value-turned}
-use borrow.Author.Rules.{rules}
 use Rattle.values.proofs.located_value.Goals as goal
 
 pub returns-then-refusal-ne0 : goal.returns-then-refusal-ne0

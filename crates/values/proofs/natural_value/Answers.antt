@@ -13,7 +13,6 @@ use Rattle.interpolate.specs.Values.{Owners}
 use Rattle.cavity.specs.Room.{roomy, list-within}
 use Rattle.cavity.specs.Listed.{listed_below}
 use Rattle.values.specs.Value.{listed-owners, shares_whole}
-use borrow.Author.Rules.{rules}
 use Rattle.values.proofs.natural_value.Goals as goal
 
 pub get_natural_neighbor_edges-found-requires : goal.get_natural_neighbor_edges-found-requires

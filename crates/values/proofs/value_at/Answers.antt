@@ -7,7 +7,6 @@ use Rattle.weights.specs.Barycentric.{Weights}
 use Rattle.natural.specs.Facts.{vertices_in}
 use Rattle.interpolate.specs.Values.{Owners}
 use Rattle.values.specs.Value.{barycentric_value, barycentric-owners}
-use borrow.Author.Rules.{rules}
 use Rattle.values.proofs.value_at.Goals as goal
 
 pub weighed_value-requires : goal.weighed_value-requires

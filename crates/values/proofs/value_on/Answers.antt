@@ -4,7 +4,6 @@ use native.Mathlib.Omega.{arith}
 use borrow.Author.Tests.{eq-eqb, ne_eqb}
 use Rattle.geometry.specs.Plane.{on-grid}
 use Rattle.values.specs.Value.{value_on}
-use borrow.Author.Rules.{rules}
 use Rattle.values.proofs.value_on.Goals as goal
 
 pub returns-then-method-eq0 : goal.returns-then-method-eq0

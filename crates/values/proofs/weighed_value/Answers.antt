@@ -6,7 +6,6 @@ use Rattle.weights.specs.declared.BarycentricWeights.{BarycentricWeights}
 use Rattle.weights.specs.Barycentric.{weights_say}
 use Rattle.natural.specs.Facts.{vertices_in}
 use Rattle.interpolate.specs.Values.{Owners, sum_from}
-use borrow.Author.Rules.{rules}
 use Rattle.values.proofs.weighed_value.Goals as goal
 
 pub value-requires : goal.value-requires

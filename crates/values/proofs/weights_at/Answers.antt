@@ -3,7 +3,6 @@ use mathlib.Core.Path.{sym, ap, ◌∙◌}
 use Rattle.chart.specs.Chart.{chart_of}
 use Rattle.locate.proofs.Laws.{located}
 use Rattle.values.specs.Located.{barycentric_at}
-use borrow.Author.Rules.{rules}
 use Rattle.values.proofs.weights_at.Goals as goal
 
 pub edge_weights-requires : goal.edge_weights-requires

@@ -1,4 +1,4 @@
-use Rattle.std.proofs.Common.{◌≡◌, ◌+◌, ◌<◌, length, arith, length-set}
+use Rattle.std.proofs.Common.{◌+◌, ◌<◌, length, arith, length-set}
 use Rattle.std.proofs.Math.Numerals.{add-one}
 use Rattle.std.proofs.Math.Seq.{paste-suc}
 use Rattle.case_files.proofs.folder.copy_in.Goals as goal

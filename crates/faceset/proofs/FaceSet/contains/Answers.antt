@@ -1,5 +1,4 @@
 -- `FaceSet::contains` meets its contract: the definition asks for the same digit. Assumes nothing.
-use borrow.Author.Rules.{rules}
 use mathlib.Core.Path.{refl}
 use Rattle.faceset.specs.Set.{has, bit}
 use Rattle.faceset.proofs.FaceSet.contains.Goals as goal

@@ -5,7 +5,7 @@ use native.Mathlib.Omega.{arith}
 use lib.Count.{ones}
 use lib.ListN.{get_or}
 use mir.Syntax.{w64}
-use borrow.Author.Rules.{rules, elem_fits_field}
+use borrow.Author.Rules.{rules}
 use Rattle.faceset.specs.Set.{count_below, has}
 use Rattle.faceset.specs.Laws.{count-le}
 use Rattle.faceset.proofs.Words.{has-count}
