@@ -1,2 +1,2 @@
-// Theorems about accepted charts: everything is in specs/.
+// Theorems about accepted charts: everything is in specs/ and proofs/.
 #![tactic(auto)]

@@ -5,7 +5,7 @@ ghost use Rattle.std.specs.Prelude.{◌≡◌, ◌≤◌};
 ghost use Rattle.whole.specs.First.{some};
 ghost use Rattle.book.specs.Books.{account_max, section_max, total_wear, wear_above, count_above, stray_numbers, stray_at, bad_sections, book_refusal, zero_book, fresh_book, charge_book, splice_book, ChargeFits, SpliceFits};
 
-// The account's limit (`Limit`), and the most sections that a book has (`section_max`).
+// The account's limit (`account_max`), and the most sections that a book has (`section_max`).
 pub const LIMIT: u64 = 1_000_000_000_000;
 
 const SECTION_MAX: usize = 16;

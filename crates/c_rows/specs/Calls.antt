@@ -1,6 +1,6 @@
 -- The exported calls on triangle A: the numbers that include/estivolh.h names (kinds, counts, the book's 34), with 01's and the Rust's answers, as computed rows
 -- about the calls' definitions. Assumes nothing.
-use Rattle.std.specs.Prelude.{◌≡◌, refl, List, [], ◌∷◌, ◌++◌, map, ℕ, ℤ, pos, negsuc, Float, get_or, replicate}
+use Rattle.std.specs.Prelude.{◌≡◌, refl, List, [], ◌∷◌, ◌++◌, map, ℕ, ℤ, pos, Float, get_or, replicate}
 use Rattle.std.proofs.Common.{ap, ◌∙◌, arith}
 use Rattle.std.specs.Float.{binary64}
 use Rattle.std.specs.Float.Ieee.{add, sub, mul, div, le, lt, eq, ne, neg, of_bits, of_int}

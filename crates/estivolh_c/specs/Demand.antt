@@ -1,6 +1,6 @@
 -- Demand 3 of the exported calls: the book that `estivolh_fresh` and `estivolh_batch` keep in a lent slice is the book of the public calls (`batch-kept`), so
 -- that the demand holds of calls that were made on a slice (`demand-kept`). Assumes nothing.
-use Rattle.std.specs.Prelude.{◌≡◌, refl, Bool, false, cond, ltb, List, [], ◌∷◌, ℕ, zero, suc, ◌≤◌, ℤ, length, take, drop}
+use Rattle.std.specs.Prelude.{◌≡◌, refl, Bool, false, cond, ltb, List, [], ◌∷◌, ℕ, zero, suc, ◌≤◌, ℤ, length, drop}
 use Rattle.std.proofs.Common.{sym, ap, ◌∙◌, subst, arith, length-set, length-drop, length-append, length-take-le, le-ltb, ltb-false}
 use Rattle.book.specs.declared.Book.{Book}
 use Rattle.book.specs.declared.Returned.{Returned}
@@ -9,7 +9,7 @@ use Rattle.entries.specs.declared.Entry.{Entry}
 use Rattle.entries.specs.declared.Ruling.{Ruling}
 use Rattle.entries.specs.declared.Ruling.TheVariants.{Bend, Splice, Refused}
 use Rattle.entries.specs.Entry.{entries_of}
-use Rattle.accounts.specs.Batch.{book_change, book_verdict, book_after, batch_refusal, Outcome, outcome, by_refusal, batch_of}
+use Rattle.accounts.specs.Batch.{book_change, book_verdict, book_after, batch_refusal, Outcome, by_refusal, batch_of}
 use Rattle.accounts.specs.Tally.{tally}
 use Rattle.accounts.specs.Demand.{Call, fresh, joined, OneChart, MadeCall, Made, calls_of, last_book, last_answers, Demand3Made}
 use Rattle.accounts.proofs.Demand3.{demand3-made}

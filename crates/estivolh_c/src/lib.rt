@@ -1,4 +1,4 @@
-// The public calls for C: numbers and slices only, in a static library. A call's number is 0 where it is accepted, else the refusal's, and then nothing
+// The public calls for C: numbers and slices only; the crate estivolh_c_c exports them. A call's number is 0 where it is accepted, else the refusal's, and then nothing
 // is written. A lent slice shorter than its stated length gets 2 before all else; elements past that length are unchanged.
 #![tactic(auto)]
 

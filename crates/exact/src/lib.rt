@@ -1,2 +1,2 @@
-// Whole numbers in f64: laws alone, everything is in specs/.
+// Whole numbers in f64: laws alone, everything is in specs/ and proofs/.
 #![tactic(auto)]

@@ -6,7 +6,7 @@ use Rattle.whole.specs.Test.{eq_z}
 use Rattle.whole.specs.Bools.{or-false}
 use Rattle.geometry.specs.declared.Place.{Place}
 
--- the grid's bound: coordinates run from -Grid to Grid (01, row 6 and row 13)
+-- the grid's bound: coordinates run from -grid_max to grid_max (01, row 6 and row 13)
 abbrev pub grid_max : ℕ
 grid_max = 10000
 

@@ -1,2 +1,2 @@
-// Every load inside the rim has a home: everything is in specs/.
+// Every load inside the rim has a home: everything is in specs/ and proofs/.
 #![tactic(auto)]

@@ -16,7 +16,7 @@ use Rattle.chart.specs.Chart.{Chart, chart_of}
 use Rattle.ranges.specs.Ranges.{value_max, not_below, cell, bad_vertex, out_of_range}
 use Rattle.ranges.specs.Passed.{Counted}
 use Rattle.checks.specs.Checks.{chart_refusal, tables_refusal, Loaded, told}
-use Rattle.checks.specs.Checks.Loaded.{loaded, refused}
+use Rattle.checks.specs.Checks.Loaded.{loaded}
 use Rattle.reading.specs.Reading.{Body, body_of, load_body, load_of}
 use Rattle.reading.specs.Reading.Body.{body, malformed}
 use Rattle.reading.specs.Laws.{told-zero, told-other}

@@ -1,2 +1,2 @@
-// Theorem: which refusals each public call can give, for all arguments: everything is in specs/.
+// Theorem: which refusals each public call can give, for all arguments: everything is in specs/ and proofs/.
 #![tactic(auto)]

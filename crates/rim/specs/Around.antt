@@ -1,16 +1,14 @@
 -- 02, CR 11: the faces whose circle strictly holds a load, their borders, and what the search opens and lists, on triangle A, on the square and on a kite: the square's
 -- links with the corners (10,0), (20,20), (0,10), (0,0), so that the circle of face 2 passes (10,10), which is in face 1. The lists are the oracle's second reading.
 -- Each row is computed. Assumes nothing.
-use Rattle.std.specs.Prelude.{◌≡◌, refl, Bool, true, false, List, [], ◌∷◌, map, ℕ, eqb, ℤ, pos}
+use Rattle.std.specs.Prelude.{◌≡◌, refl, Bool, true, false, List, [], ◌∷◌, map, ℕ, eqb, pos}
 use Rattle.whole.specs.Among.{among}
 use Rattle.whole.specs.First.{from}
 use Rattle.geometry.specs.declared.Place.{Place}
 use Rattle.geometry.specs.Plane.{cross_of, dot_of, norm2_of, side, lifted, circle, on_open_segment}
 use Rattle.chart.specs.Chart.{Chart, chart_of}
 use Rattle.reading.specs.Laws.{of_chart}
-use Rattle.locate.specs.declared.Location.{Location}
 use Rattle.locate.specs.declared.Location.TheVariants.{OnVertex, OnEdge, OnFace, OutsideOfConvexHull}
-use Rattle.locate.specs.Location.{location_of}
 use Rattle.faceset.specs.Set.{none, add, count_below}
 use Rattle.flips.specs.Search.{in_circle, should_flip, inspect, inspect_all}
 use Rattle.neighbors.specs.Neighbors.{finished, face_neighbors, inner_edge_neighbors, edge_neighbors, search_of, neighbors_of}

@@ -1,7 +1,7 @@
 -- 02, CR 13: which new bench tests are refused, and what the new chart is to the old one: on triangle A, on the square, and on charts of 127 and 128 vertices.
 -- The tables of triangle A with a test at (2,3) are those that the sources' own `insert_into_triangle` leaves. Each row is computed. Assumes nothing.
 use Rattle.std.specs.Prelude.{◌≡◌, refl, true, List, [], ◌∷◌, ◌++◌, map, ℕ, zero, suc, ◌+◌, ◌/◌, ◌≤◌, ◌<◌, ℤ, pos, negsuc, length, drop, set, replicate}
-use Rattle.std.proofs.Common.{sym, subst, ap, ◌∙◌, arith, lit<, lt-ltb, le-ltb}
+use Rattle.std.proofs.Common.{subst, ap, ◌∙◌, arith, lit<, lt-ltb, le-ltb}
 use Rattle.std.proofs.lemmas.List.{length-replicate}
 use Rattle.whole.specs.Bools.{never}
 use Rattle.whole.specs.First.{from}
@@ -15,7 +15,6 @@ use Rattle.chart.specs.Chart.{Chart, chart_of}
 use Rattle.ranges.specs.Ranges.{counts_refused, not_below, bad_vertex, bad_half_edge, bad_face, out_of_range}
 use Rattle.links.specs.Links.{linked, links_broken}
 use Rattle.checks.specs.Checks.{chart_refusal, tables_refusal}
-use Rattle.checks.specs.Checks.Loaded.{loaded}
 use Rattle.reading.specs.Reading.{counts_of, head_of, file_length, body_of, load_of, chart_in}
 use Rattle.reading.specs.Text.{chart_text}
 use Rattle.locate.specs.declared.Location.TheVariants.{OnEdge}

@@ -1,6 +1,6 @@
 -- Rows on charts that the check refuses, or on no chart at all: what the definitions say where no accepted chart leads. Expected are 01's words, worked out by
 -- hand, and the Rust's text. Each is computed. Assumes nothing.
-use Rattle.std.specs.Prelude.{◌≡◌, refl, Bool, true, false, List, [], ◌∷◌, ℕ, ℤ, pos, Float}
+use Rattle.std.specs.Prelude.{◌≡◌, refl, List, [], ◌∷◌, ℕ, ℤ, pos, Float}
 use Rattle.std.specs.Float.{binary64}
 use Rattle.std.specs.Float.Ieee.{add, sub, mul, div, le, lt, eq, ne, neg, of_bits, of_int}
 use Rattle.whole.specs.First.{from}
@@ -12,7 +12,6 @@ use Rattle.locate.specs.Location.{location_of}
 use Rattle.faceset.specs.Set as S
 use Rattle.flips.specs.Search.{in_circle, should_flip, inspect, inspect_all}
 use Rattle.neighbors.specs.Neighbors.{finished, face_neighbors, inner_edge_neighbors, edge_neighbors, neighbors_of}
-use Rattle.points.specs.declared.PointProjection.{PointProjection}
 use Rattle.points.specs.Points.{relative_position, circumcenter_of}
 use Rattle.weights.specs.Barycentric.{Weights as B, two_point_interpolation, barycentric_interpolation, weigh_two, weigh_three}
 use Rattle.turns.specs.Turn.{cell_corner, face_center, turn_from, turn_of}

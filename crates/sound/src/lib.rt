@@ -1,2 +1,2 @@
-// What refusals 6 to 10 leave of a chart: everything is in specs/.
+// What refusals 6 to 10 leave of a chart: everything is in specs/ and proofs/.
 #![tactic(auto)]

@@ -14,7 +14,7 @@ use Rattle.links.specs.Links.{linked, links_broken}
 use Rattle.checks.specs.Checks.{chart_refusal, tables_refusal}
 use Rattle.checks.specs.Checks.Loaded.{loaded}
 use Rattle.reading.specs.Reading.{counts_of, head_of, body_of, load_of, chart_in, chart_refusal_of}
-use Rattle.locate.specs.declared.Location.TheVariants.{OnVertex, OnEdge, OnFace, OutsideOfConvexHull}
+use Rattle.locate.specs.declared.Location.TheVariants.{OnEdge, OnFace, OutsideOfConvexHull}
 use Rattle.locate.specs.Location.{location_of}
 use Rattle.faceset.specs.Set as S
 use Rattle.flips.specs.Search.{in_circle, should_flip, inspect, inspect_all}
