@@ -4,3 +4,4 @@ pub mod Crossing
 pub mod Count
 pub mod Home
 pub mod Located
+pub mod Needed

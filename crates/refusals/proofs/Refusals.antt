@@ -45,36 +45,7 @@ use Rattle.accounts.specs.Batch.{bad_slices, batch_refusal, by_refusal}
 use Rattle.estivolh.specs.Account.{queries}
 use Rattle.refusals.specs.Entries.{of_entry, OnlyBy, ValueBy, value-within, either}
 use Rattle.refusals.proofs.Entries.{entry-by}
-use Rattle.refusals.specs.Refusals.{Refusals, of_inserting}
-
--- ---- an answer of each kind that is refused with one of these, if it is refused
-abbrev PlaceBy : List ℕ → L.Located → Type 0
-PlaceBy ns (L.Located.at l) = Unit {0}
-PlaceBy ns (L.Located.turned_down n) = among ns n ≡ true
-
-abbrev WeightsBy : List ℕ → Weights → Type 0
-WeightsBy ns (Weights.weights l) = Unit {0}
-WeightsBy ns (Weights.turned_down n) = among ns n ≡ true
-
-abbrev TallyBy : List ℕ → N.Tally → Type 0
-TallyBy ns (N.Tally.listed n o) = Unit {0}
-TallyBy ns (N.Tally.turned_down n) = among ns n ≡ true
-
-abbrev SlopeBy : List ℕ → G.Slope → Type 0
-SlopeBy ns (G.Slope.slope x y) = Unit {0}
-SlopeBy ns (G.Slope.turned_down n) = among ns n ≡ true
-
-abbrev CostBy : List ℕ → Cost → Type 0
-CostBy ns (Cost.whole n) = Unit {0}
-CostBy ns (Cost.turned_down n) = among ns n ≡ true
-
-abbrev WrittenBy : List ℕ → S.Written → Type 0
-WrittenBy ns (S.Written.wrote n) = Unit {0}
-WrittenBy ns (S.Written.turned_down n) = among ns n ≡ true
-
-abbrev ChartBy : List ℕ → Loaded → Type 0
-ChartBy ns (loaded vs es fs) = Unit {0}
-ChartBy ns (refused n) = among ns n ≡ true
+use Rattle.refusals.specs.Refusals.{Refusals, of_inserting, PlaceBy, WeightsBy, TallyBy, SlopeBy, CostBy, WrittenBy, ChartBy, of_natural, of_query, of_writing}
 
 -- ---- the chart's
 chart-by : (s : List ℕ) → ChartBy of_chart (chart_in s)
@@ -123,8 +94,6 @@ gradient-in (loaded vs es fs) v h = either (SlopeBy (of_chart ++ 12 ∷ [])) (lt
 gradient-in (refused n) v h = among-within of_chart (of_chart ++ 12 ∷ []) refl n h
 
 -- ---- natural neighbours: 2 as well
-abbrev of_natural : List ℕ
-of_natural = 2 ∷ of_chart ++ 13 ∷ 14 ∷ []
 
 of-chart : (n : ℕ) → among of_chart n ≡ true → among of_natural n ≡ true
 of-chart n h = among-within of_chart of_natural refl n h
@@ -169,8 +138,6 @@ shares-after s q os ws (H.Counts v e f) h =
     (shares-in (load_of v e f s) q os ws (load-by v e f s))
 
 -- ---- values
-abbrev of_query : List ℕ
-of_query = 12 ∷ 13 ∷ 14 ∷ []
 
 weighed-by : (c : Chart) (w : Weights) → WeightsBy of_query w → ValueBy of_query (barycentric_value c w)
 weighed-by c (Weights.weights l) h = tt
@@ -199,9 +166,6 @@ value_in_lem (refused n) m q h = among-within of_chart (of_chart ++ of_query) re
 -- ---- charge, writer, book
 charge-by : (v : Float) → CostBy (16 ∷ []) (charge_of v)
 charge-by v = either (CostBy (16 ∷ [])) (off_scale v) (Cost.turned_down 16) (Cost.whole (rounded v)) refl tt
-
-abbrev of_writing : List ℕ
-of_writing = 2 ∷ 4 ∷ of_tables ++ 18 ∷ []
 
 numbers-by : (vs es fs : List ℤ) → among (0 ∷ of_writing) (S.numbers_refusal vs es fs) ≡ true
 unfolding S.numbers_refusal

@@ -2,7 +2,7 @@
 -- table". None is 0, the number that says 'accepted'. Assumes nothing.
 use Rattle.std.specs.Prelude.{◌≡◌, true, List, [], ◌∷◌, ◌++◌, ℕ, Float, ℤ}
 use Rattle.whole.specs.Among.{among}
-use Rattle.checks.specs.Checks.Loaded.{loaded}
+use Rattle.checks.specs.Checks.Loaded.{loaded, refused}
 use Rattle.checks.specs.Numbers.{of_tables}
 use Rattle.reading.specs.Reading.{chart_in, chart_refusal_of}
 use Rattle.reading.specs.Laws.{of_chart}
@@ -25,6 +25,7 @@ use Rattle.accounts.specs.Rulings.{entry_ruling}
 use Rattle.accounts.specs.Batch.{batch_of}
 use Rattle.estivolh.specs.Account.{queries}
 use Rattle.refusals.specs.Entries.{of_entry}
+use Rattle.checks.specs.Checks.{Loaded}
 
 pub record Refusals : Type 0 where
   -- a chart's bytes
@@ -51,3 +52,42 @@ pub record Refusals : Type 0 where
 -- ---- a new bench test
 abbrev pub of_inserting : List ℕ
 of_inserting = of_chart ++ 13 ∷ 25 ∷ 26 ∷ 18 ∷ []
+
+-- ---- an answer of each kind that is refused with one of these, if it is refused
+abbrev pub PlaceBy : List ℕ → L.Located → Type 0
+PlaceBy ns (L.Located.at l) = Unit {0}
+PlaceBy ns (L.Located.turned_down n) = among ns n ≡ true
+
+abbrev pub WeightsBy : List ℕ → Weights → Type 0
+WeightsBy ns (Weights.weights l) = Unit {0}
+WeightsBy ns (Weights.turned_down n) = among ns n ≡ true
+
+abbrev pub TallyBy : List ℕ → N.Tally → Type 0
+TallyBy ns (N.Tally.listed n o) = Unit {0}
+TallyBy ns (N.Tally.turned_down n) = among ns n ≡ true
+
+abbrev pub SlopeBy : List ℕ → G.Slope → Type 0
+SlopeBy ns (G.Slope.slope x y) = Unit {0}
+SlopeBy ns (G.Slope.turned_down n) = among ns n ≡ true
+
+abbrev pub CostBy : List ℕ → Cost → Type 0
+CostBy ns (Cost.whole n) = Unit {0}
+CostBy ns (Cost.turned_down n) = among ns n ≡ true
+
+abbrev pub WrittenBy : List ℕ → S.Written → Type 0
+WrittenBy ns (S.Written.wrote n) = Unit {0}
+WrittenBy ns (S.Written.turned_down n) = among ns n ≡ true
+
+abbrev pub ChartBy : List ℕ → Loaded → Type 0
+ChartBy ns (loaded vs es fs) = Unit {0}
+ChartBy ns (refused n) = among ns n ≡ true
+
+-- ---- what the calls of a kind share
+abbrev pub of_natural : List ℕ
+of_natural = 2 ∷ of_chart ++ 13 ∷ 14 ∷ []
+
+abbrev pub of_query : List ℕ
+of_query = 12 ∷ 13 ∷ 14 ∷ []
+
+abbrev pub of_writing : List ℕ
+of_writing = 2 ∷ 4 ∷ of_tables ++ 18 ∷ []
