@@ -10,8 +10,8 @@ use Rattle.checks.specs.Checks.{tables_refusal, Loaded}
 use Rattle.checks.specs.Checks.Loaded.{loaded, refused}
 use Rattle.reading.specs.Reading.{head_of, Body, body_of, load_body, load_of, refusal_of, after_head, chart_in, chart_refusal_of}
 use Rattle.reading.specs.Reading.Body.{body, malformed}
-use Rattle.reading.specs.declared.Head.{Head}
-use Rattle.reading.specs.declared.Head.TheVariants.{Refused, Counts}
+use Rattle.reading.specs.Reading.{Head}
+use Rattle.reading.specs.Reading.Head.{Refused, Counts}
 use Rattle.reading.specs.Laws.{head-counted, head-refusal, load-refusal, chart-body}
 use Rattle.accepted.specs.Tests.{passed}
 use Rattle.accepted.specs.Accepted.{Accepted, accepted}

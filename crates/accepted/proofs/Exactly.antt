@@ -16,12 +16,13 @@ use Rattle.chart.specs.Chart.{Chart, chart_of, corner₀, corner₁, corner₂}
 use Rattle.delaunay.specs.Delaunay.{in_circle, crowded}
 use Rattle.checks.specs.Checks.{chart_refusal, tables_refusal}
 use Rattle.ranges.specs.Ranges.{out_of_range}
-use Rattle.reading.specs.declared.Head.TheVariants.{Counts}
+use Rattle.reading.specs.Reading.Head.{Counts}
 use Rattle.reading.specs.Reading.{head_of, body_of, load_of, chart_in, chart_refusal_of}
 use Rattle.reading.specs.Reading.Body.{body}
 use Rattle.sound.specs.Sound.{start, end, apex}
 use Rattle.sound.proofs.Exactly.{inner_of, third, none_before}
 use Rattle.accepted.specs.Accepted.{Accepted}
+use Rattle.accepted.specs.Unrefused.{Unrefused}
 
 module _ (c : Chart) (a : Accepted c) where
   -- ---- 11
@@ -53,3 +54,7 @@ module _ (c : Chart) (a : Accepted c) where
 pub read-accepted : (s : List ℕ) (v e f : ℕ) (vs es fs : List ℤ) → head_of s ≡ Counts v e f → body_of v e f s ≡ body vs es fs → out_of_range vs es fs ≡ false → Accepted (chart_of vs (unsigned_all es) (unsigned_all fs)) → chart_refusal_of s ≡ 0
 unfolding chart_in load_of tables_refusal
 read-accepted s v e f vs es fs h b o a = rw (h, b, o, none-refuses (chart_of vs (unsigned_all es) (unsigned_all fs)) a) refl
+
+-- so it is one that none of rows 4 and 6 to 11 meets
+pub accepted-unrefused : (c : Chart) → Accepted c → Unrefused c
+accepted-unrefused c a = record { counts = a.counts; values = a.values; none = none-refuses c a }

@@ -1,24 +1,19 @@
 -- From `chart_refusal_of bytes ≡ 0` to `Accepted`: the theorem that carries everything later. Assumes nothing.
 use Rattle.std.specs.Prelude.{◌≡◌, refl, Bool, true, false, cond, List, ℕ, zero, suc, ◌+◌, ◌*◌, ◌/◌, eqb, ℤ, length, drop}
 use Rattle.std.proofs.Common.{sym, ap, ◌∙◌, one-mul, arith}
-use Rattle.std.proofs.lemmas.List.{length-map}
 use Rattle.whole.specs.Bools.{never}
 use Rattle.tables.specs.Table.{Cells, table_of, line_bytes}
 use Rattle.tables.specs.Table.Cells.{cells, bad}
 use Rattle.tables.specs.Size.{table-length}
-use Rattle.chart.specs.Tables.{rows, unsigned, unsigned_all}
+use Rattle.chart.specs.Tables.{unsigned_all}
 use Rattle.chart.specs.Chart.{chart_of}
 use Rattle.ranges.specs.Ranges.{out_of_range}
-use Rattle.ranges.specs.Passed.{Counted, in-range, values-in}
-use Rattle.checks.specs.Checks.{chart_refusal, tables_refusal, Loaded, told}
-use Rattle.checks.specs.Checks.Loaded.{loaded, refused}
-use Rattle.reading.specs.Reading.{head_length, head_of, file_length, Body, three, body_of, load_body, load_of, refusal_of, after_head, chart_in, chart_refusal_of}
+use Rattle.checks.specs.Checks.{chart_refusal, tables_refusal, told}
+use Rattle.checks.specs.Checks.Loaded.{loaded}
+use Rattle.reading.specs.Reading.{head_length, head_of, file_length, Body, three, body_of, chart_in}
 use Rattle.reading.specs.Reading.Body.{body, malformed}
-use Rattle.reading.specs.declared.Head.{Head}
-use Rattle.reading.specs.declared.Head.TheVariants.{Refused, Counts}
-use Rattle.reading.specs.Laws.{head-counted, head-refusal, load-refusal, chart-body}
-use Rattle.accepted.specs.Tests.{passed}
-use Rattle.accepted.specs.Accepted.{Accepted, accepted}
+use Rattle.reading.specs.Reading.Head.{Counts}
+use Rattle.accepted.specs.Accepted.{Accepted}
 
 -- ---- the tables of a body are as long as the counts say
 pub record Sized (v e f : ℕ) (vs es fs : List ℤ) : Type 0 where

@@ -9,8 +9,8 @@ use Rattle.book.specs.declared.Book.{Book}
 use Rattle.book.specs.Books.{account_max, wear_of, count_of, total_wear, charge_book, splice_book, ValidBook}
 use Rattle.book.specs.Laws.{Room, charge-wear, charge-count, charge-other-wear, charge-other-count, charge-total, charge-valid, splice-wear, splice-count, splice-other-wear, splice-other-count, splice-total, splice-valid}
 use Rattle.entries.specs.declared.Entry.{Entry}
-use Rattle.entries.specs.declared.Ruling.{Ruling}
-use Rattle.entries.specs.declared.Ruling.TheVariants.{Bend, Splice, Refused}
+use Rattle.entries.specs.Ruling.{Ruling}
+use Rattle.entries.specs.Ruling.Ruling.{Bend, Splice, Refused}
 use Rattle.entries.specs.Ruling.{meets17, with17, answer_of}
 use Rattle.accounts.specs.Rulings.{Queries, Known, entry_ruling, known}
 use Rattle.accounts.specs.Batch.{book_change, book_verdict, book_after, answers_from}

@@ -3,12 +3,12 @@ use Rattle.std.specs.Prelude.{◌≡◌, refl, ◌↔◌, List, [], ◌∷◌, �
 use Rattle.std.proofs.Common.{sym, ◌∙◌, ap, subst, arith, take_at, le-ltb, ne_eqb}
 use Rattle.std.proofs.Math.ListN.{get_or-map}
 use Rattle.book.specs.declared.Book.{Book}
-use Rattle.book.specs.declared.Returned.{Returned}
+use Rattle.book.specs.Returned.{Returned}
 use Rattle.book.specs.Books.{section_max, bad_sections, ValidBook, zero_book}
 use Rattle.book.specs.Laws.{fresh-wear, fresh-count, fresh-valid, valid-book}
 use Rattle.entries.specs.declared.Entry.{Entry}
-use Rattle.entries.specs.declared.Ruling.{Ruling}
-use Rattle.entries.specs.declared.Ruling.TheVariants.{Bend, Splice, Refused}
+use Rattle.entries.specs.Ruling.{Ruling}
+use Rattle.entries.specs.Ruling.Ruling.{Bend, Splice, Refused}
 use Rattle.entries.specs.Entry.{entry_width, entries_from, entries_of}
 use Rattle.entries.specs.Ruling.{refused_entry, meets17, with17, answer_of}
 use Rattle.accounts.specs.Rulings.{Queries, Known, entry_ruling, known}

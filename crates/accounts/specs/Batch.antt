@@ -1,12 +1,12 @@
 -- 01, "Where a call can be turned down" and "Charge, entry, book": a batch of entries on a book.
 use Rattle.std.specs.Prelude.{List, [], ◌∷◌, ◌++◌, Bool, not, cond, ◌||◌, ℕ, zero, suc, ◌/◌, ◌%◌, ltb, eqb, ℤ, length, drop}
 use Rattle.book.specs.declared.Book.{Book}
-use Rattle.book.specs.declared.Returned.{Returned}
+use Rattle.book.specs.Returned.{Returned}
 use Rattle.book.specs.Books.{total_wear, count_of, charge_book, splice_book, bad_book}
 use Rattle.reading.specs.Reading.{chart_refusal_of}
 use Rattle.entries.specs.declared.Entry.{Entry}
-use Rattle.entries.specs.declared.Ruling.{Ruling}
-use Rattle.entries.specs.declared.Ruling.TheVariants.{Bend, Splice, Refused}
+use Rattle.entries.specs.Ruling.{Ruling}
+use Rattle.entries.specs.Ruling.Ruling.{Bend, Splice, Refused}
 use Rattle.entries.specs.Entry.{entry_width, entries_of}
 use Rattle.entries.specs.Ruling.{with17, answer_of}
 use Rattle.accounts.specs.Rulings.{Queries, entry_ruling}

@@ -1,10 +1,10 @@
 -- Demand 3: one claim about every list of batches from a fresh book.
 use Rattle.std.specs.Prelude.{◌≡◌, ◌↔◌, List, [], ◌∷◌, ◌++◌, map, false, cond, ℕ, ◌<◌, eqb, ℤ, length, get_or, take}
 use Rattle.book.specs.declared.Book.{Book}
-use Rattle.book.specs.declared.Returned.{Returned}
+use Rattle.book.specs.Returned.{Returned}
 use Rattle.book.specs.Books.{wear_of, count_of, total_wear, bad_book, fresh_book}
 use Rattle.entries.specs.declared.Entry.{Entry}
-use Rattle.entries.specs.declared.Ruling.TheVariants.{Splice}
+use Rattle.entries.specs.Ruling.Ruling.{Splice}
 use Rattle.entries.specs.Entry.{entries_of}
 use Rattle.entries.specs.Ruling.{refused_entry, answer_of}
 use Rattle.accounts.specs.Rulings.{Queries}

@@ -2,8 +2,8 @@
 use Rattle.std.specs.Prelude.{◌≡◌, refl, List, [], ◌∷◌, ◌++◌, Bool, true, false, cond, ◌||◌, ℕ, ◌+◌, length}
 use Rattle.std.proofs.Common.{sym, ◌∙◌, ap, append-nil, arith, length-append, eq-eqb, ne_eqb}
 use Rattle.std.proofs.Math.Bool.{or-false, or-true}
-use Rattle.entries.specs.declared.Ruling.{Ruling}
-use Rattle.entries.specs.declared.Ruling.TheVariants.{Bend, Splice, Refused}
+use Rattle.entries.specs.Ruling.{Ruling}
+use Rattle.entries.specs.Ruling.Ruling.{Bend, Splice, Refused}
 use Rattle.accounts.specs.Tally.{bends, splices, keep, any_splice, since, live_bends, wear_sum, bend_count, charges}
 
 -- ---- the filters, one ruling more at the end

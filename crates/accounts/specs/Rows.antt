@@ -8,11 +8,11 @@ use Rattle.geometry.specs.Plane.{off_grid}
 use Rattle.ranges.specs.Ranges.{not_below}
 use Rattle.reading.specs.Reading.{head_of, chart_in}
 use Rattle.book.specs.declared.Book.{Book}
-use Rattle.book.specs.declared.Returned.{Returned}
+use Rattle.book.specs.Returned.{Returned}
 use Rattle.book.specs.Books.{bad_book, fresh_book}
 use Rattle.entries.specs.declared.Entry.{Entry}
-use Rattle.entries.specs.declared.Ruling.{Ruling}
-use Rattle.entries.specs.declared.Ruling.TheVariants.{Bend, Splice, Refused}
+use Rattle.entries.specs.Ruling.{Ruling}
+use Rattle.entries.specs.Ruling.Ruling.{Bend, Splice, Refused}
 use Rattle.entries.specs.Ruling.{meets17, with17, answer_of}
 use Rattle.values.specs.Value.{Answer}
 use Rattle.accounts.specs.Rulings.{Queries, entry_ruling}

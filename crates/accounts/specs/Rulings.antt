@@ -8,8 +8,8 @@ use Rattle.chart.specs.Tables.{unsigned}
 use Rattle.ranges.specs.Passed.{below}
 use Rattle.values.specs.Value.{Answer}
 use Rattle.entries.specs.declared.Entry.{Entry}
-use Rattle.entries.specs.declared.Ruling.{Ruling}
-use Rattle.entries.specs.declared.Ruling.TheVariants.{Bend, Splice, Refused}
+use Rattle.entries.specs.Ruling.{Ruling}
+use Rattle.entries.specs.Ruling.Ruling.{Bend, Splice, Refused}
 use Rattle.entries.specs.Entry.{is_splice, unknown, place_in}
 use Rattle.charge.specs.Charging.{charge_max, off_scale, charge_of, charge_case}
 use Rattle.charge.specs.Nearest.{on-scale}

@@ -2,8 +2,8 @@
 use Rattle.std.specs.Prelude.{List, [], ◌∷◌, ◌++◌, map, Bool, false, cond, ◌||◌, ℕ, ◌+◌, eqb, length}
 use Rattle.book.specs.Books.{sum_of}
 use Rattle.entries.specs.declared.Entry.{Entry}
-use Rattle.entries.specs.declared.Ruling.{Ruling}
-use Rattle.entries.specs.declared.Ruling.TheVariants.{Bend, Splice, Refused}
+use Rattle.entries.specs.Ruling.{Ruling}
+use Rattle.entries.specs.Ruling.Ruling.{Bend, Splice, Refused}
 use Rattle.entries.specs.Ruling.{with17}
 use Rattle.accounts.specs.Rulings.{Queries, entry_ruling}
 

@@ -2,280 +2,180 @@
 #![tactic(auto)]
 
 use book::Book;
-use charge::Charged;
-use query::{NaturalNeighbors, PositionInTriangulation};
-use weights::BarycentricWeights;
+use gradient::Gradient;
+use locate::Location;
+use query::Listed;
+use refusal::Refusal;
+use std::io::Write;
+use std::{fmt, io};
+use weights::{BarycentricWeights, Weighted};
 
-// The descriptor of standard output.
-const STDOUT: i32 = 1;
+// A float as its 64 bits. A not-a-number has no bits of its own.
+#[derive(Clone, Copy)]
+struct Bits(f64);
 
-pub fn verdict(number: u64) {
-    ending(b"verdict ", number);
+impl fmt::Display for Bits {
+    fn fmt<W: fmt::Write>(&self, f: &mut fmt::Formatter<W>) -> fmt::Result {
+        if self.0.is_nan() {
+            return write!(f, "nan");
+        }
+        let bits = self.0.to_bits();
+        write!(f, "{bits}")
+    }
+}
+
+pub fn verdict<W: Write>(out: &mut W, found: Result<(), Refusal>) -> io::Result<()> {
+    match found {
+        Ok(()) => writeln!(out, "verdict 0"),
+        Err(refusal) => writeln!(out, "verdict {}", refusal.number()),
+    }
 }
 
 // An answer of the writer, within a line: how long its text is, and whether the file has the same bytes.
-pub fn written(length: u64, same: bool) {
-    word(b" ");
-    natural(length);
-    if same {
-        word(b" same");
-    } else {
-        word(b" other");
-    }
+pub fn written<W: Write>(out: &mut W, length: u64, same: bool) -> io::Result<()> {
+    let bytes = if same { "same" } else { "other" };
+    write!(out, " {length} {bytes}")
 }
 
-pub fn unwritten(number: u64) {
-    word(b" refused ");
-    natural(number);
+pub fn unwritten<W: Write>(out: &mut W, refusal: Refusal) -> io::Result<()> {
+    write!(out, " refused {}", refusal.number())
 }
 
 // Stands after an answer of the writer where bytes are changed that are none of its text.
-pub fn changed() {
-    word(b" changed");
+pub fn changed<W: Write>(out: &mut W) -> io::Result<()> {
+    write!(out, " changed")
 }
 
 // The refusals by a short list of edges, of vertices and of weights: the oracle has one number, and so has the line where they are alike.
-pub fn room(length: u64, edges: u64, owners: u64, weights: u64) {
-    word(b"room ");
-    natural(length);
-    word(b" ");
-    natural(edges);
-    if edges == owners {
-        if owners == weights {
-            word(b"\n");
-            return;
-        }
-    }
-    word(b" ");
-    natural(owners);
-    ending(b" ", weights);
-}
-
-pub fn gradient(vertex: u64, x: f64, y: f64) {
-    word(b"gradient ");
-    natural(vertex);
-    word(b" ");
-    bits(x);
-    word(b" ");
-    bits(y);
-    word(b"\n");
-}
-
-pub fn refused_gradient(vertex: u64, number: u64) {
-    word(b"gradient ");
-    natural(vertex);
-    ending(b" refused ", number);
-}
-
-pub fn query(x: i64, y: i64) {
-    word(b"query ");
-    signed(x);
-    word(b" ");
-    signed(y);
-    word(b"\n");
-}
-
-pub fn location(place: PositionInTriangulation) {
-    word(b"location ");
-    match place {
-        PositionInTriangulation::OnVertex(v) => ending(b"vertex ", v),
-        PositionInTriangulation::OnEdge(h) => ending(b"edge ", h),
-        PositionInTriangulation::OnFace(f) => ending(b"face ", f),
-        PositionInTriangulation::OutsideOfConvexHull(h) => ending(b"outside ", h),
-        PositionInTriangulation::Refused(n) => ending(b"refused ", n),
+pub fn room<W: Write>(
+    out: &mut W,
+    length: u64,
+    edges: u64,
+    owners: u64,
+    weights: u64,
+) -> io::Result<()> {
+    if edges == owners && owners == weights {
+        writeln!(out, "room {length} {edges}")
+    } else {
+        writeln!(out, "room {length} {edges} {owners} {weights}")
     }
 }
 
-pub fn barycentric(weights: BarycentricWeights) {
-    word(b"barycentric ");
+pub fn gradient<W: Write>(out: &mut W, vertex: u64, slope: Gradient) -> io::Result<()> {
+    writeln!(out, "gradient {vertex} {} {}", Bits(slope.x), Bits(slope.y))
+}
+
+pub fn refused_gradient<W: Write>(out: &mut W, vertex: u64, refusal: Refusal) -> io::Result<()> {
+    writeln!(out, "gradient {vertex} refused {}", refusal.number())
+}
+
+pub fn query<W: Write>(out: &mut W, x: i64, y: i64) -> io::Result<()> {
+    writeln!(out, "query {x} {y}")
+}
+
+pub fn location<W: Write>(out: &mut W, found: Result<Location, Refusal>) -> io::Result<()> {
+    match found {
+        Ok(Location::OnVertex(v)) => writeln!(out, "location vertex {v}"),
+        Ok(Location::OnEdge(h)) => writeln!(out, "location edge {h}"),
+        Ok(Location::OnFace(f)) => writeln!(out, "location face {f}"),
+        Ok(Location::OutsideOfConvexHull(h)) => writeln!(out, "location outside {h}"),
+        Err(refusal) => writeln!(out, "location refused {}", refusal.number()),
+    }
+}
+
+pub fn barycentric<W: Write>(
+    out: &mut W,
+    weights: Result<BarycentricWeights, Refusal>,
+) -> io::Result<()> {
     match weights {
-        BarycentricWeights::OneVertex(u, a) => {
-            word(b"1");
-            weight(u, a);
-            word(b"\n");
-        }
-        BarycentricWeights::TwoWeights(u, a, v, b) => {
-            word(b"2");
-            weight(u, a);
-            weight(v, b);
-            word(b"\n");
-        }
-        BarycentricWeights::ThreeWeights(u, a, v, b, w, c) => {
-            word(b"3");
-            weight(u, a);
-            weight(v, b);
-            weight(w, c);
-            word(b"\n");
-        }
-        BarycentricWeights::Refused(n) => ending(b"refused ", n),
+        Ok(BarycentricWeights::OneVertex(u)) => weighted(out, &[u]),
+        Ok(BarycentricWeights::TwoWeights(u, v)) => weighted(out, &[u, v]),
+        Ok(BarycentricWeights::ThreeWeights(u, v, w)) => weighted(out, &[u, v, w]),
+        Err(refusal) => writeln!(out, "barycentric refused {}", refusal.number()),
     }
 }
 
-pub fn edges(found: NaturalNeighbors, list: &[u64]) {
-    word(b"edges ");
+// How many vertices there are, and each with its weight.
+fn weighted<W: Write>(out: &mut W, vertices: &[Weighted]) -> io::Result<()> {
+    write!(out, "barycentric {}", vertices.len())?;
+    for v in vertices {
+        write!(out, " {} {}", v.vertex, Bits(v.weight))?;
+    }
+    writeln!(out)
+}
+
+pub fn edges<W: Write>(
+    out: &mut W,
+    found: Result<Listed, Refusal>,
+    list: &[u64],
+) -> io::Result<()> {
     match found {
-        NaturalNeighbors::Listed(count, opened) => {
-            natural(opened);
-            word(b" ");
-            natural(count);
-            numbers(list, count as usize);
-            word(b"\n");
+        Ok(listed) => {
+            write!(out, "edges {} {}", listed.opened, listed.count)?;
+            numbers(out, list, listed.count)
         }
-        NaturalNeighbors::Refused(n) => ending(b"refused ", n),
+        Err(refusal) => writeln!(out, "edges refused {}", refusal.number()),
     }
 }
 
-pub fn natural_weights(found: NaturalNeighbors, owners: &[u64], shares: &[f64]) {
-    word(b"natural ");
+pub fn natural_weights<W: Write>(
+    out: &mut W,
+    found: Result<Listed, Refusal>,
+    owners: &[u64],
+    shares: &[f64],
+) -> io::Result<()> {
     match found {
-        NaturalNeighbors::Listed(count, opened) => {
-            natural(opened);
-            word(b" ");
-            natural(count);
-            pairs(owners, shares, count as usize);
-            word(b"\n");
+        Ok(listed) => {
+            write!(out, "natural {} {}", listed.opened, listed.count)?;
+            for (owner, share) in owners.iter().zip(shares.iter()).take(listed.count) {
+                write!(out, " {owner} {}", Bits(*share))?;
+            }
+            writeln!(out)
         }
-        NaturalNeighbors::Refused(n) => ending(b"refused ", n),
+        Err(refusal) => writeln!(out, "natural refused {}", refusal.number()),
     }
 }
 
-pub fn value(method: i64, value: f64, cost: Charged) {
-    word(b"value ");
-    signed(method);
-    word(b" ");
-    bits(value);
-    word(b" charge ");
-    charged(cost);
-}
-
-pub fn refused_value(method: i64, number: u64) {
-    word(b"value ");
-    signed(method);
-    ending(b" refused ", number);
-}
-
-fn charged(cost: Charged) {
-    match cost {
-        Charged::Whole(n) => ending(b"", n),
-        Charged::Refused(n) => ending(b"refused ", n),
+pub fn value<W: Write>(
+    out: &mut W,
+    method: i64,
+    value: f64,
+    charge: Result<u64, Refusal>,
+) -> io::Result<()> {
+    write!(out, "value {method} {} charge ", Bits(value))?;
+    match charge {
+        Ok(n) => writeln!(out, "{n}"),
+        Err(refusal) => writeln!(out, "refused {}", refusal.number()),
     }
 }
 
-// The refusal of a batch, or the answers to its entries.
-pub fn batch(refusal: u64, answers: &[u64], entries: usize) {
-    if refusal == 0 {
-        word(b"answers");
-        numbers(answers, entries);
-        word(b"\n");
-    } else {
-        ending(b"refused ", refusal);
+pub fn refused_value<W: Write>(out: &mut W, method: i64, refusal: Refusal) -> io::Result<()> {
+    writeln!(out, "value {method} refused {}", refusal.number())
+}
+
+// The answers to a batch of so many entries.
+pub fn answers<W: Write>(out: &mut W, answers: &[u64], entries: usize) -> io::Result<()> {
+    write!(out, "answers")?;
+    numbers(out, answers, entries)
+}
+
+pub fn refused_batch<W: Write>(out: &mut W, refusal: Refusal) -> io::Result<()> {
+    writeln!(out, "refused {}", refusal.number())
+}
+
+// The book, with a line for each section's wear and bends.
+pub fn book<W: Write>(out: &mut W, book: Book) -> io::Result<()> {
+    writeln!(out, "book {} {}", book.sections, book.retired)?;
+    for (wear, bends) in book.wear.iter().zip(book.bends.iter()) {
+        writeln!(out, "{wear} {bends}")?;
     }
+    Ok(())
 }
 
-pub fn book(book: Book) {
-    word(b"book ");
-    natural(book.sections);
-    ending(b" ", book.retired);
-    let wear = book.wear;
-    let bends = book.bends;
-    columns(&wear, &bends);
-}
-
-// A line for each section's wear and bends.
-fn columns(wear: &[u64], bends: &[u64]) {
-    let mut i = 0;
-    while i < wear.len() && i < bends.len() {
-        natural(wear[i]);
-        ending(b" ", bends[i]);
-        i += 1;
+// The first `count` numbers of a list, or all of them where it has fewer, and the line's end.
+fn numbers<W: Write>(out: &mut W, list: &[u64], count: usize) -> io::Result<()> {
+    for n in list.iter().take(count) {
+        write!(out, " {n}")?;
     }
-}
-
-// What takes the place of answers where the packed input cannot be followed any further.
-pub fn broken_header() {
-    word(b"broken header\n");
-}
-
-pub fn broken_case() {
-    word(b"broken case\n");
-}
-
-// What takes the place of the answers to a query that is malformed, and to those after it.
-pub fn broken_queries() {
-    word(b"broken queries\n");
-}
-
-// What takes the place of the answers after a room that is malformed.
-pub fn broken_rooms() {
-    word(b"broken rooms\n");
-}
-
-// What takes the place of the answers to a batch that is malformed, and to those after it.
-pub fn broken_batch() {
-    word(b"broken batch\n");
-}
-
-pub fn broken_log() {
-    word(b"broken log\n");
-}
-
-pub fn word(text: &[u8]) {
-    io::write_all(STDOUT, text);
-}
-
-fn natural(n: u64) {
-    io::print_decimal(STDOUT, n);
-}
-
-// The end of a line: a word and a number.
-fn ending(text: &[u8], n: u64) {
-    word(text);
-    natural(n);
-    word(b"\n");
-}
-
-// A vertex and its weight, within a line.
-fn weight(vertex: u64, value: f64) {
-    word(b" ");
-    natural(vertex);
-    word(b" ");
-    bits(value);
-}
-
-// The first `count` numbers of a list, or all of them where it has fewer, within a line.
-fn numbers(list: &[u64], count: usize) {
-    let mut i = 0;
-    while i < list.len() && i < count {
-        word(b" ");
-        natural(list[i]);
-        i += 1;
-    }
-}
-
-// The first `count` vertices with their weights, or as many as there are.
-fn pairs(owners: &[u64], shares: &[f64], count: usize) {
-    let mut i = 0;
-    while i < owners.len() && i < count {
-        if shares.len() <= i {
-            return;
-        }
-        weight(owners[i], shares[i]);
-        i += 1;
-    }
-}
-
-// A float as its 64 bits. A not-a-number has no bits of its own.
-fn bits(x: f64) {
-    if x == x {
-        natural(f64::to_bits(x));
-    } else {
-        word(b"nan");
-    }
-}
-
-fn signed(z: i64) {
-    if z < 0 {
-        word(b"-");
-    }
-    natural(columns::magnitude(z));
+    writeln!(out)
 }

@@ -2,31 +2,13 @@
 // arguments or, with no argument, for each packed case on standard input.
 #![tactic(auto)]
 
-use case_files::folder::argument_count;
-use cases::{folder, packed};
+use std::io;
+use std::io::{BufWriter, Write};
 
-fn main(rt: HostRuntime) {
-    let mut chart_space = io::large_buffer();
-    let mut query_space = io::large_buffer();
-    let mut room_space = io::buffer();
-    let mut batch_space = io::large_buffer();
-    let mut log_space = io::large_buffer();
-    if argument_count(&rt) < 2 {
-        packed::cases(
-            &mut chart_space,
-            &mut query_space,
-            &mut room_space,
-            &mut batch_space,
-            &mut log_space,
-        );
-    } else {
-        folder::cases(
-            &rt,
-            &mut chart_space,
-            &mut query_space,
-            &mut room_space,
-            &mut batch_space,
-            &mut log_space,
-        );
-    }
+fn main(rt: HostRuntime) -> io::Result<()> {
+    let mut out = BufWriter::new(rt.alloc(), io::writer(&rt))?;
+    let done = cases::answer(&rt, &mut out);
+    // what was answered before a failure is printed too
+    out.flush()?;
+    done
 }

@@ -5,13 +5,12 @@ use Rattle.values.specs.Value.{method_of, value_on}
 use Rattle.book.specs.declared.Book.{Book}
 use Rattle.book.specs.Books.{ChargeFits, SpliceFits}
 use Rattle.entries.specs.declared.Entry.{Entry}
-use Rattle.entries.specs.declared.Ruling.{Ruling}
-use Rattle.entries.specs.declared.Ruling.TheVariants.{Bend, Splice, Refused}
+use Rattle.entries.specs.Ruling.{Ruling}
+use Rattle.entries.specs.Ruling.Ruling.{Bend, Splice, Refused}
 use Rattle.entries.specs.Entry.{entries_of}
 use Rattle.entries.specs.Ruling.{answer_of}
 use Rattle.accounts.specs.Rulings.{Queries}
 use Rattle.accounts.specs.Batch.{book_verdict, book_change, book_after, answers_from, overlay}
-use Rattle.batch.specs.declared.Step.{Step}
 
 -- the value of a load by a method, whatever the bytes from which the tables were read
 abbrev pub on_tables : Chart → Queries
@@ -24,6 +23,13 @@ Changeable b (Splice i) = SpliceFits b i
 Changeable b (Refused k) = Unit {0}
 
 -- an entry's answer and the book after it
+pub record Step : Type 0 where
+  pub answer : ℕ
+  pub book : Book
+
+abbrev pub step : ℕ → Book → Step
+step n b = record { answer = n; book = b }
+
 abbrev pub step_of : Queries → List ℕ → Book → Entry → Step
 step_of Q bytes b e = record { answer = answer_of (book_verdict Q bytes b e); book = book_change b (book_verdict Q bytes b e) }
 

@@ -7,9 +7,13 @@ use Rattle.program.specs.Program.{printed_of, refusal_printed}
 abbrev pub broken_size : ℕ
 broken_size = 1
 
--- so many bytes are kept of a log of some size: all of it, where they leave room; or the first, with its size counted on; or none, where its reading failed
+-- so many bytes are kept of a log of some size: all of it, where they leave room; or the first, with its size counted on
+abbrev pub Counted : ℕ → ℕ → ℕ → Type 0
+Counted room kept size = (kept ≤ size) × (kept < room → size ≡ kept)
+
+-- the same; or none of a log whose reading failed
 abbrev pub Handed : ℕ → ℕ → ℕ → Type 0
-Handed room kept size = ((kept ≤ size) × (kept < room → size ≡ kept)) ⊎ ((kept ≡ 0) × (size ≡ broken_size))
+Handed room kept size = Counted room kept size ⊎ ((kept ≡ 0) × (size ≡ broken_size))
 
 -- a log whose reading failed is refused as one of a wrong length, chart first
 pub broken-refused : (chart : List ℕ) → printed_of chart broken_size [] ≡ refusal_printed chart 3

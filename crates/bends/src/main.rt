@@ -3,20 +3,13 @@
 
 mod input;
 
+use std::io;
 use std::io::Write;
 
-fn main(rt: HostRuntime) -> std::io::Result<()> {
-    let mut chart_space = io::large_buffer();
-    let mut log_space = io::large_buffer();
-    let mut out = io::large_buffer();
-    let chart = input::read_chart(&rt, &mut chart_space);
-    let log = input::read_log(&mut rt.stdin(), &mut log_space);
-    let kept = log.kept;
-    let n = program::print(
-        &chart_space[..chart],
-        log.size,
-        &log_space[..kept],
-        &mut out,
-    );
+fn main(rt: HostRuntime) -> io::Result<()> {
+    let chart = input::read_chart(&rt)?;
+    let log = input::read_log(rt.alloc(), &mut rt.stdin())?;
+    let mut out = [0u8; 65536];
+    let n = program::print(&chart, log.size, &log.kept, &mut out);
     rt.stdout().write_all(&out[..n])
 }

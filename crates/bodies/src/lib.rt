@@ -2,167 +2,103 @@
 #![tactic(auto)]
 
 ghost use Rattle.std.specs.Prelude.{◌≡◌, ◌≤◌, length};
-ghost use Rattle.ranges.specs.Passed.{Counted};
-ghost use Rattle.reading.specs.Reading.{load_of, refusal_of};
+ghost use Rattle.refusal.specs.Number.{refusal_of};
+ghost use Rattle.reading.specs.Reading.{load_of, refusal_of as body_refusal};
 ghost use Rattle.query.specs.Gradient.{gradient_says, gradient_in};
 ghost use Rattle.query.specs.Natural.{edges_left, edges_in, shares_left, shares_in};
 ghost use Rattle.weights.specs.Barycentric.{weights_say};
+ghost use Rattle.values.specs.Method.{known};
 ghost use Rattle.values.specs.Value.{value_says};
 ghost use Rattle.query.specs.Value.{value_in};
 ghost use Rattle.query.specs.Location.{position_says, locate_in};
 ghost use Rattle.query.specs.Weights.{barycentric_in};
 
+use accepted::Room;
 use geometry::Place;
-use query::{EstimatedGradient, NaturalNeighbors, PositionInTriangulation};
-use values::InterpolatedValue;
+use gradient::{Gradient, ValuedChart};
+use locate::Location;
+use query::Listed;
+use ranges::Counts;
+use refusal::Refusal;
+use values::{Method, Scratch};
 use weights::BarycentricWeights;
 
 // What meets the body of a chart whose head has these counts.
-pub fn body_refusal(chart: &[u8], v: usize, e: usize, f: usize) -> u64
-    requires { Counted v e f }
-    ensures { result ≡ refusal_of (load_of v e f chart.now) }
+pub fn body_refusal(text: &[u8], counts: Counts) -> Result<(), Refusal>
+    ensures { refusal_of result ≡ body_refusal (load_of counts.vertices counts.half_edges counts.faces text.now) }
 {
-    let mut vertices = chart::vertex_room();
-    let mut edges = chart::edge_room();
-    let mut faces = chart::face_room();
-    reading::load(chart, v, e, f, &mut vertices, &mut edges, &mut faces)
+    let mut room = Room::new();
+    room.load(text, counts)?;
+    Ok(())
 }
 
-// In the body of a chart whose head has these counts.
-pub fn locate_in(chart: &[u8], v: usize, e: usize, f: usize, q: Place) -> PositionInTriangulation
-    requires { Counted v e f }
-    ensures { position_says result ≡ locate_in (load_of v e f chart.now) q }
+// In the body of a chart whose head has these counts: where a load lies,
+pub fn locate_in(text: &[u8], counts: Counts, q: Place) -> Result<Location, Refusal>
+    ensures { position_says result ≡ locate_in (load_of counts.vertices counts.half_edges counts.faces text.now) q }
 {
-    let mut vertices = chart::vertex_room();
-    let mut edges = chart::edge_room();
-    let mut faces = chart::face_room();
-    let refusal = reading::load(chart, v, e, f, &mut vertices, &mut edges, &mut faces);
-    if refusal != 0 {
-        return PositionInTriangulation::Refused(refusal);
-    }
-    let a = 4 * v;
-    let b = 4 * e;
-    query::locate_on(&vertices[..a], &edges[..b], &faces[..f], q)
+    let mut room = Room::new();
+    let accepted = room.load(text, counts)?;
+    query::locate_on(&accepted, q)
 }
 
-// In the body of a chart whose head has these counts.
-pub fn weights_in(chart: &[u8], v: usize, e: usize, f: usize, q: Place) -> BarycentricWeights
-    requires { Counted v e f }
-    ensures { weights_say result ≡ barycentric_in (load_of v e f chart.now) q }
+// its barycentric weights,
+pub fn weights_in(text: &[u8], counts: Counts, q: Place) -> Result<BarycentricWeights, Refusal>
+    ensures { weights_say result ≡ barycentric_in (load_of counts.vertices counts.half_edges counts.faces text.now) q }
 {
-    let mut vertices = chart::vertex_room();
-    let mut edges = chart::edge_room();
-    let mut faces = chart::face_room();
-    let refusal = reading::load(chart, v, e, f, &mut vertices, &mut edges, &mut faces);
-    if refusal != 0 {
-        return BarycentricWeights::Refused(refusal);
-    }
-    let a = 4 * v;
-    let b = 4 * e;
-    query::weights_on(&vertices[..a], &edges[..b], &faces[..f], q)
+    let mut room = Room::new();
+    let accepted = room.load(text, counts)?;
+    query::weights_on(&accepted, q)
 }
 
-// In the body of a chart whose head has these counts.
-pub fn gradient_in(chart: &[u8], v: usize, e: usize, f: usize, vertex: usize) -> EstimatedGradient
-    requires { Counted v e f }
-    ensures { gradient_says result ≡ gradient_in (load_of v e f chart.now) vertex }
+// the gradient at a vertex,
+pub fn gradient_in(text: &[u8], counts: Counts, vertex: usize) -> Result<Gradient, Refusal>
+    ensures { gradient_says result ≡ gradient_in (load_of counts.vertices counts.half_edges counts.faces text.now) vertex }
 {
-    let mut vertices = chart::vertex_room();
-    let mut edges = chart::edge_room();
-    let mut faces = chart::face_room();
-    let refusal = reading::load(chart, v, e, f, &mut vertices, &mut edges, &mut faces);
-    if refusal != 0 {
-        return EstimatedGradient::Refused(refusal);
-    }
-    let a = 4 * v;
-    let b = 4 * e;
-    query::gradient_on(&vertices[..a], &edges[..b], &faces[..f], vertex)
+    let mut room = Room::new();
+    let accepted = room.load(text, counts)?;
+    let valued = ValuedChart {
+        chart: accepted.chart,
+    };
+    query::gradient_on(&valued, vertex)
 }
 
-// In the body of a chart whose head has these counts.
-pub fn edges_in(
-    chart: &[u8],
-    v: usize,
-    e: usize,
-    f: usize,
-    q: Place,
-    out: &mut [u64],
-) -> NaturalNeighbors
-    requires fact_1 { Counted v e f }
-    requires fact_2 { e ≤ length out.old }
-    ensures { edges_left result out.new ≡ edges_in (load_of v e f chart.now) q out.old }
+// the edges of a load's natural neighbours,
+pub fn edges_in(text: &[u8], counts: Counts, q: Place, out: &mut [u64]) -> Result<Listed, Refusal>
+    requires { counts.half_edges ≤ length out.old }
+    ensures { edges_left result out.new ≡ edges_in (load_of counts.vertices counts.half_edges counts.faces text.now) q out.old }
 {
-    let mut vertices = chart::vertex_room();
-    let mut edges = chart::edge_room();
-    let mut faces = chart::face_room();
-    let refusal = reading::load(chart, v, e, f, &mut vertices, &mut edges, &mut faces);
-    if refusal != 0 {
-        return NaturalNeighbors::Refused(refusal);
-    }
-    let a = 4 * v;
-    let b = 4 * e;
-    query::edges_on(&vertices[..a], &edges[..b], &faces[..f], q, out)
+    let mut room = Room::new();
+    let accepted = room.load(text, counts)?;
+    query::edges_on(&accepted, q, out)
 }
 
-// In the body of a chart whose head has these counts.
+// the natural neighbours with their weights,
 pub fn shares_in(
-    chart: &[u8],
-    v: usize,
-    e: usize,
-    f: usize,
+    text: &[u8],
+    counts: Counts,
     q: Place,
     owners: &mut [u64],
     weights: &mut [f64],
-) -> NaturalNeighbors
-    requires fact_1 { Counted v e f }
-    requires fact_2 { e ≤ length owners.old }
-    requires fact_3 { e ≤ length weights.old }
-    ensures { shares_left result owners.new weights.new ≡ shares_in (load_of v e f chart.now) q owners.old weights.old }
+) -> Result<Listed, Refusal>
+    requires owners_room { counts.half_edges ≤ length owners.old }
+    requires weights_room { counts.half_edges ≤ length weights.old }
+    ensures { shares_left result owners.new weights.new ≡ shares_in (load_of counts.vertices counts.half_edges counts.faces text.now) q owners.old weights.old }
 {
-    let mut vertices = chart::vertex_room();
-    let mut edges = chart::edge_room();
-    let mut faces = chart::face_room();
-    let refusal = reading::load(chart, v, e, f, &mut vertices, &mut edges, &mut faces);
-    if refusal != 0 {
-        return NaturalNeighbors::Refused(refusal);
-    }
-    let a = 4 * v;
-    let b = 4 * e;
-    query::shares_on(&vertices[..a], &edges[..b], &faces[..f], q, owners, weights)
+    let mut room = Room::new();
+    let accepted = room.load(text, counts)?;
+    query::shares_on(&accepted, q, owners, weights)
 }
 
-// In the body of a chart whose head has these counts.
+// and the value of a load by a method.
 pub fn value_in(
-    chart: &[u8],
-    v: usize,
-    e: usize,
-    f: usize,
-    method: u64,
+    text: &[u8],
+    counts: Counts,
+    method: Option<Method>,
     q: Place,
-) -> InterpolatedValue
-    requires { Counted v e f }
-    ensures { value_says result ≡ value_in (load_of v e f chart.now) method q }
+) -> Result<f64, Refusal>
+    ensures { value_says result ≡ value_in (load_of counts.vertices counts.half_edges counts.faces text.now) (known method) q }
 {
-    let mut vertices = chart::vertex_room();
-    let mut edges = chart::edge_room();
-    let mut faces = chart::face_room();
-    let refusal = reading::load(chart, v, e, f, &mut vertices, &mut edges, &mut faces);
-    if refusal != 0 {
-        return InterpolatedValue::Refused(refusal);
-    }
-    let mut list = values::list_room();
-    let mut xs = values::float_room();
-    let mut ys = values::float_room();
-    let a = 4 * v;
-    let b = 4 * e;
-    values::value_on(
-        &vertices[..a],
-        &edges[..b],
-        &faces[..f],
-        method,
-        q,
-        &mut list,
-        &mut xs,
-        &mut ys,
-    )
+    let mut room = Room::new();
+    let accepted = room.load(text, counts)?;
+    values::value_on(&accepted, method, q, &mut Scratch::new())
 }

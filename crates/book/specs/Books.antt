@@ -2,7 +2,7 @@
 use Rattle.std.specs.Prelude.{◌≡◌, List, [], ◌∷◌, Bool, not, cond, ◌&&◌, ◌||◌, ℕ, ◌+◌, ◌^◌, ◌≤◌, ◌<◌, ltb, leb, eqb, length, get_or, set, replicate}
 use Rattle.whole.specs.First.{some}
 use Rattle.book.specs.declared.Book.{Book}
-use Rattle.book.specs.declared.Returned.{Returned}
+use Rattle.book.specs.Returned.{Returned}
 
 -- the account's limit, 10^12 (rows 1 and 17)
 abbrev pub account_max : ℕ

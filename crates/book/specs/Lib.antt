@@ -1,3 +1,4 @@
+pub mod Returned
 pub mod Books
 pub mod Sums
 pub mod Laws

@@ -1,9 +1,16 @@
 // The book: wear and bend counts of a rope's sections, and the retired wear (01, "Charge, entry, book"). It is changed here and decides nothing.
 #![tactic(auto)]
 
-ghost use Rattle.std.specs.Prelude.{◌≡◌, ◌≤◌};
+ghost use Rattle.std.specs.Prelude.{◌≡◌};
 ghost use Rattle.whole.specs.First.{some};
-ghost use Rattle.book.specs.Books.{account_max, section_max, total_wear, wear_above, count_above, stray_numbers, stray_at, bad_sections, book_refusal, zero_book, fresh_book, charge_book, splice_book, ChargeFits, SpliceFits};
+ghost use Rattle.book.specs.Returned.{returned_of};
+ghost use Rattle.book.specs.Books.{section_max, wear_above, count_above, stray_at, bad_sections, bad_book, zero_book, fresh_book, charge_book, splice_book, ChargeFits, SpliceFits};
+
+use refusal::Refusal;
+
+mod checked;
+
+pub use checked::CheckedBook;
 
 // The account's limit (`account_max`), and the most sections that a book has (`section_max`).
 pub const LIMIT: u64 = 1_000_000_000_000;
@@ -18,21 +25,23 @@ pub struct Book {
     pub retired: u64,
 }
 
-// A call's refusal, 0 for none, and the book that it hands back.
-#[derive(Clone, Copy)]
-pub struct Returned {
-    pub refusal: u64,
-    pub book: Book,
+// The book of 0 sections, all zero: it stands beside refusal 1 of a fresh book.
+impl Default for Book {
+    ghost use Rattle.std.specs.Prelude.{◌≡◌};
+    ghost use Rattle.book.specs.Books.{zero_book};
+
+    ghost is_default = { λ b. b ≡ zero_book 0 };
+
+    fn default() -> Book {
+        zero_book(0)
+    }
 }
 
 // Sections not 1 to 16.
 fn bad_sections(sections: u64) -> bool
     ensures { result ≡ bad_sections sections }
 {
-    if sections < 1 {
-        return true;
-    }
-    sections > SECTION_MAX as u64
+    sections < 1 || sections > SECTION_MAX as u64
 }
 
 // A book of so many sections, all zero.
@@ -47,119 +56,56 @@ fn zero_book(sections: u64) -> Book
     }
 }
 
-// A fresh book; where the sections are not 1 to 16, refusal 1 beside a book of 0 sections.
-pub fn fresh(sections: u64) -> Returned
-    ensures { result ≡ fresh_book sections }
+// A fresh book; where the sections are not 1 to 16, refusal 1.
+pub fn fresh(sections: u64) -> Result<Book, Refusal>
+    ensures { returned_of result (zero_book 0) ≡ fresh_book sections }
 {
     if bad_sections(sections) {
-        return Returned {
-            refusal: 1,
-            book: zero_book(0),
-        };
+        return Err(Refusal::Book);
     }
-    Returned {
-        refusal: 0,
-        book: zero_book(sections),
-    }
+    Ok(zero_book(sections))
 }
 
 // Whether wear and retired wear together are above the limit. Each number is held against what is left of the limit before it is taken off: no sum can wrap.
-fn wear_above(wear: [u64; SECTION_MAX], retired: u64) -> bool
-    ensures { result ≡ wear_above wear retired }
+fn wear_above(wear: &[u64], retired: u64) -> bool
+    ensures { result ≡ wear_above wear.now retired }
 {
     if retired > LIMIT {
         return true;
     }
     let mut left = LIMIT - retired;
-    let mut i = 0;
-    while i < SECTION_MAX {
-        let w = wear[i];
+    for &w in wear {
         if w > left {
             return true;
         }
         left -= w;
-        i += 1;
     }
     false
 }
 
 // Whether some bend count is above the limit.
-fn some_count_above(bends: [u64; SECTION_MAX]) -> bool
-    ensures { result ≡ some (count_above bends) section_max }
+fn some_count_above(bends: &[u64; SECTION_MAX]) -> bool
+    ensures { result ≡ some (count_above bends.now) section_max }
 {
-    let mut i = 0;
-    while i < SECTION_MAX {
-        if bends[i] > LIMIT {
-            return true;
-        }
-        i += 1;
-    }
-    false
-}
-
-// Whether place i is at or past the section count and not all zero.
-fn stray_numbers(sections: u64, i: usize, wear: u64, bends: u64) -> bool
-    ensures { result ≡ stray_numbers sections i wear bends }
-{
-    if (i as u64) < sections {
-        return false;
-    }
-    if wear != 0 {
-        return true;
-    }
-    bends != 0
+    (0..SECTION_MAX).any(|i| bends[i] > LIMIT)
 }
 
 // Whether some section at or past the section count is not all zero.
-fn some_stray(sections: u64, wear: [u64; SECTION_MAX], bends: [u64; SECTION_MAX]) -> bool
-    ensures { result ≡ some (stray_at sections wear bends) section_max }
+fn some_stray(book: &Book) -> bool
+    ensures { result ≡ some (stray_at book.now.sections book.now.wear book.now.bends) section_max }
 {
-    let mut i = 0;
-    while i < SECTION_MAX {
-        if stray_numbers(sections, i, wear[i], bends[i]) {
-            return true;
-        }
-        i += 1;
-    }
-    false
+    (0..SECTION_MAX).any(|i| i as u64 >= book.sections && (book.wear[i] != 0 || book.bends[i] != 0))
 }
 
-// Refusal 1 of any book that a caller can hold, or 0.
-pub fn book_refusal(book: Book) -> u64
-    ensures { result ≡ book_refusal book }
+// Whether refusal 1 meets the book.
+#[tactic(auto, unfolding(crate::specs::Books::bad_book))]
+fn is_bad(book: &Book) -> bool
+    ensures { result ≡ bad_book book.now }
 {
-    let sections = book.sections;
-    let wear = book.wear;
-    let bends = book.bends;
-    if bad_sections(sections) {
-        return 1;
-    }
-    if wear_above(wear, book.retired) {
-        return 1;
-    }
-    if some_count_above(bends) {
-        return 1;
-    }
-    if some_stray(sections, wear, bends) {
-        return 1;
-    }
-    0
-}
-
-// Wear of all sections plus retired wear, of a book that 1 does not meet.
-pub fn total_wear(book: Book) -> u64
-    requires { total_wear book ≤ account_max }
-    ensures { result ≡ total_wear book }
-{
-    let wear = book.wear;
-    let retired = book.retired;
-    let mut total = retired;
-    let mut i = 0;
-    while i < SECTION_MAX {
-        total += wear[i];
-        i += 1;
-    }
-    total
+    bad_sections(book.sections)
+        || wear_above(&book.wear, book.retired)
+        || some_count_above(&book.bends)
+        || some_stray(book)
 }
 
 impl Book {
@@ -168,8 +114,8 @@ impl Book {
         requires { ChargeFits self section n }
         ensures { result ≡ charge_book self section n }
     {
-        self.wear[section] = self.wear[section] + n;
-        self.bends[section] = self.bends[section] + 1;
+        self.wear[section] += n;
+        self.bends[section] += 1;
         self
     }
 
@@ -178,7 +124,7 @@ impl Book {
         requires { SpliceFits self section }
         ensures { result ≡ splice_book self section }
     {
-        self.retired = self.retired + self.wear[section];
+        self.retired += self.wear[section];
         self.wear[section] = 0;
         self.bends[section] = 0;
         self

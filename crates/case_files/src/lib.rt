@@ -3,3 +3,6 @@
 
 pub mod folder;
 pub mod packed;
+mod texts;
+
+pub use texts::Texts;

@@ -1,40 +1,47 @@
-// A text of a packed case, from standard input.
-ghost use Rattle.std.specs.Prelude.{◌≤◌};
+// The texts of packed cases: a header line with their sizes, and then these texts. A read that fails ends the input.
+use crate::Texts;
+use case_text::LIMIT;
+use case_text::headers::{HEADER, read_header};
+use case_text::stop::Stop;
+use std::alloc::Global;
+use std::io;
+use std::io::{ErrorKind, Read};
 
-// The descriptor of standard input.
-const STDIN: i32 = 0;
-
-// Reads a text of this size, or as much of it as `space` holds, and passes over the rest. Whether all of it was there.
-// A chart that is cut so is longer than any chart, and so is its first part.
-pub fn read_text(space: &mut [u8], size: usize) -> bool {
-    let kept = case_text::least(size, space.len());
-    if io::read_full(STDIN, &mut space[..kept]) < kept {
-        return false;
+// The texts of the next case; `None` where the input ends before it.
+pub fn read_texts<R: Read>(alloc: Global, input: &mut R) -> Result<Option<Texts>, Stop> {
+    let line = read_some(alloc, input, HEADER)?;
+    if line.is_empty() {
+        return Ok(None);
     }
-    skip_text(size - kept)
+    let sizes = read_header(&line).ok_or(Stop::Header)?;
+    Ok(Some(Texts {
+        chart: read_text(alloc, input, sizes.chart)?,
+        queries: read_text(alloc, input, sizes.queries)?,
+        rooms: read_text(alloc, input, sizes.rooms)?,
+        batches: read_text(alloc, input, sizes.batches)?,
+        log: read_text(alloc, input, sizes.log)?,
+    }))
 }
 
-fn skip_text(size: usize) -> bool {
-    let mut space = io::buffer();
-    skip(&mut space, size)
-}
-
-// Passes over the next `size` bytes of the input. Whether they were there.
-fn skip(space: &mut [u8], size: usize) -> bool {
-    let mut left = size;
-    while left > 0 {
-        let n = skip_some(space, left);
-        if n == 0 {
-            return false;
-        }
-        left -= n;
+// A text of this size: what is past the limit is read and dropped.
+fn read_text<R: Read>(alloc: Global, input: &mut R, size: usize) -> Result<Vec<u8>, Stop> {
+    let kept = size.min(LIMIT);
+    let text = read_some(alloc, input, kept)?;
+    if text.len() < kept {
+        return Err(Stop::Case);
     }
-    true
+    let rest = (size - kept) as u64;
+    match io::copy(&mut input.take(rest), &mut io::sink()) {
+        Ok(n) if n == rest => Ok(text),
+        _ => Err(Stop::Case),
+    }
 }
 
-fn skip_some(space: &mut [u8], left: usize) -> usize
-    ensures { result ≤ left }
-{
-    let n = case_text::least(left, space.len());
-    io::read_full(STDIN, &mut space[..n])
+// So many bytes, or as many as there are.
+fn read_some<R: Read>(alloc: Global, input: &mut R, size: usize) -> io::Result<Vec<u8>> {
+    let mut text = Vec::new(alloc);
+    match input.take(size as u64).read_to_end(&mut text) {
+        Err(e) if e.kind() == ErrorKind::OutOfMemory => Err(e),
+        _ => Ok(text),
+    }
 }

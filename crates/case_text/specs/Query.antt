@@ -1,21 +1,16 @@
 -- A line of a queries text (oracle/README.md): two numbers with a space between them.
-use Rattle.std.specs.Prelude.{ℕ, suc, cond, List, [], ◌∷◌, take, drop, eqb}
-use Rattle.text.specs.declared.Field.{Field}
-use Rattle.text.specs.declared.Field.TheVariants.{Number, Malformed}
+use Rattle.std.specs.Prelude.{ℕ, ◌+◌, ◌==◌, List, take, drop, ℤ, Option, option_map, position}
+use Rattle.std.specs.Option.{option_and_then}
 use Rattle.case_text.specs.Decimal.{decimal_of}
-use Rattle.case_text.specs.declared.queries.Query.{Query}
-use Rattle.case_text.specs.declared.queries.Query.TheVariants.{At, NoQuery}
 
--- How many bytes stand before the first b; all of them where there is none.
-unfoldable pub until_of : ℕ → List ℕ → ℕ
-until_of b [] = 0
-until_of b (x ∷ s) = cond (eqb x b) 0 (suc (until_of b s))
+-- The bytes before the first b and those after it, where there is one.
+abbrev pub split_of : ℕ → List ℕ → Option (List ℕ × List ℕ)
+split_of b s = option_map (λ n. (take n s, drop (n + 1) s)) (position (λ x. x == b) s)
 
-abbrev pub pair_of : Field → Field → Query
-pair_of (Number x) (Number y) = At x y
-pair_of (Number x) Malformed = NoQuery
-pair_of Malformed y = NoQuery
+-- Both of two values.
+abbrev pub pair_of : {A B : Type 0} → Option A → Option B → Option (A × B)
+pair_of x y = option_and_then (λ a. option_map (λ b. (a, b)) y) x
 
--- The numbers before and after the first space. Where there is none the second has no digit, and the line is broken.
-unfoldable pub query_of : List ℕ → Query
-query_of s = let n = until_of 32 s in pair_of (decimal_of (take n s)) (decimal_of (drop (suc n) s))
+-- The numbers before and after the first space.
+unfoldable pub query_of : List ℕ → Option (ℤ × ℤ)
+query_of s = option_and_then (λ p. pair_of (decimal_of p.0) (decimal_of p.1)) (split_of 32 s)

@@ -1,19 +1,12 @@
 -- A line of a rooms text (oracle/README.md): the length of an answer slice.
-use Rattle.std.specs.Prelude.{ℕ, List, ℤ, pos, negsuc}
-use Rattle.text.specs.declared.Field.{Field}
-use Rattle.text.specs.declared.Field.TheVariants.{Number, Malformed}
+use Rattle.std.specs.Prelude.{ℕ, List, ℤ, pos, negsuc, Option, Some, None}
+use Rattle.std.specs.Option.{option_and_then}
 use Rattle.case_text.specs.Decimal.{decimal_of}
-use Rattle.case_text.specs.declared.rooms.Room.{Room}
-use Rattle.case_text.specs.declared.rooms.Room.TheVariants.{Length, NoRoom}
 
 -- A negative number is no length.
-abbrev pub length_of : ℤ → Room
-length_of (pos n) = Length n
-length_of (negsuc n) = NoRoom
+abbrev pub length_of : ℤ → Option ℕ
+length_of (pos n) = Some n
+length_of (negsuc n) = None
 
-abbrev pub room_in : Field → Room
-room_in (Number z) = length_of z
-room_in Malformed = NoRoom
-
-unfoldable pub room_of : List ℕ → Room
-room_of s = room_in (decimal_of s)
+unfoldable pub room_of : List ℕ → Option ℕ
+room_of s = option_and_then length_of (decimal_of s)

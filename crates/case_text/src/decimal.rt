@@ -1,131 +1,40 @@
-// A whole number in decimal: an optional minus sign and 1 to 19 digits, of a number that an i64 holds.
-ghost use Rattle.std.specs.Prelude.{◌≡◌, ◌≤◌, ◌<◌, length};
-ghost use Rattle.case_text.specs.Decimal.{most_digits, digits_make, magnitude_of, above_of, below_of, decimal_of, whole_of, natural_of, follows};
+// A whole number in decimal.
+ghost use Rattle.std.specs.Prelude.{◌≡◌};
+ghost use Rattle.case_text.specs.Decimal.{decimal_of, magnitude_of, natural_of};
 
-use text::Field;
-
-// As many digits as any i64 has. So many fit a u64, whatever they are.
+// As many digits as any i64 has.
 const DIGITS: usize = 19;
 
-// The magnitude of the least i64.
-const MOST: u64 = 9223372036854775808;
-
-// Stands for digits that are none: no i64 has this magnitude.
-const NONE: u64 = 18446744073709551615;
-
-// A number from 0 on that a u64 holds.
-#[derive(Clone, Copy)]
-pub enum Natural {
-    Whole(u64),
-    NoNumber,
+// An optional minus sign and 1 to 19 digits, of a number that an i64 holds.
+#[tactic(auto, unfolding(crate::specs::Decimal::decimal_of))]
+pub fn decimal(text: &[u8]) -> Option<i64>
+    ensures { result ≡ decimal_of text.now }
+{
+    match text.strip_prefix(b"-") {
+        Some(digits) => 0i64.checked_sub_unsigned(magnitude(digits)?),
+        None => i64::try_from(magnitude(text)?).ok(),
+    }
 }
 
-// The most that a digit may follow; then it is at most 5.
-const TENTH: u64 = 1844674407370955161;
-
-pub fn decimal(s: &[u8]) -> Field
-    ensures { result ≡ decimal_of s.now }
+fn magnitude(digits: &[u8]) -> Option<u64>
+    ensures { result ≡ magnitude_of digits.now }
 {
-    if text::has_minus(s) {
-        return below(magnitude(&s[1..]));
+    if DIGITS < digits.len() {
+        return None;
     }
-    above(magnitude(s))
+    unsigned(digits)
 }
 
-// A magnitude as a number from 0 on.
-fn above(n: u64) -> Field
-    ensures { result ≡ above_of n }
+// One digit or more, of a number that a u64 holds.
+pub fn unsigned(digits: &[u8]) -> Option<u64>
+    ensures { result ≡ natural_of digits.now }
 {
-    if MOST <= n {
-        return Field::Malformed;
+    // `parse` takes a plus sign too
+    if digits.starts_with(b"+") {
+        return None;
     }
-    Field::Number(n as i64)
-}
-
-// A magnitude after a minus sign.
-fn below(n: u64) -> Field
-    ensures { result ≡ below_of n }
-{
-    if n == 0 {
-        return Field::Number(0);
+    match str::from_utf8(digits) {
+        Ok(text) => text.parse().ok(),
+        Err(_) => None,
     }
-    if MOST < n {
-        return Field::Malformed;
-    }
-    // the magnitude of the least number is no i64
-    Field::Number(-1 - (n - 1) as i64)
-}
-
-fn magnitude(d: &[u8]) -> u64
-    ensures { result ≡ magnitude_of d.now }
-{
-    if d.len() == 0 {
-        return NONE;
-    }
-    if DIGITS < d.len() {
-        return NONE;
-    }
-    digits(d)
-}
-
-fn digits(d: &[u8]) -> u64
-    requires { length d.now ≤ most_digits }
-    ensures { result ≡ digits_make d.now }
-{
-    let mut v: u64 = 0;
-    let mut i = 0;
-    while i < d.len() {
-        if !text::is_figure(d[i]) {
-            return NONE;
-        }
-        v = v * 10 + text::figure(d[i]);
-        i += 1;
-    }
-    v
-}
-
-// A whole number of a u64 in decimal: one digit or more.
-pub fn unsigned(d: &[u8]) -> Natural
-    ensures { result ≡ natural_of d.now }
-{
-    if d.len() == 0 {
-        return Natural::NoNumber;
-    }
-    whole(d)
-}
-
-fn whole(d: &[u8]) -> Natural
-    ensures { result ≡ whole_of d.now }
-{
-    let mut v: u64 = 0;
-    let mut i = 0;
-    while i < d.len() {
-        if !text::is_figure(d[i]) {
-            return Natural::NoNumber;
-        }
-        let f = text::figure(d[i]);
-        if !room_for(v, f) {
-            return Natural::NoNumber;
-        }
-        v = v * 10 + f;
-        i += 1;
-    }
-    Natural::Whole(v)
-}
-
-// Whether a u64 holds v and a digit after it.
-fn room_for(v: u64, f: u64) -> bool
-    requires { f < 10 }
-    ensures { result ≡ follows v f }
-{
-    if v < TENTH {
-        return true;
-    }
-    if TENTH < v {
-        return false;
-    }
-    if 5 < f {
-        return false;
-    }
-    true
 }

@@ -1,61 +1,42 @@
 // The header line of a packed case: five fields of 8 columns and the line end.
 ghost use Rattle.std.specs.Prelude.{◌≡◌};
-ghost use Rattle.case_text.specs.Header.{size_of, sizes_of, header_of};
+ghost use Rattle.case_text.specs.Header.{size_of, header_of};
 
-// The first number that no field of 8 columns holds.
-const LIMIT: usize = 100000000;
+// How many bytes the line has.
+pub const HEADER: usize = 41;
 
-// What a header says: the sizes of a case's chart, queries, rooms, batches and log.
+// What a header says: the sizes of a case's texts.
 #[derive(Clone, Copy)]
-pub enum Header {
-    Sizes(usize, usize, usize, usize, usize),
-    Broken,
+pub struct Sizes {
+    pub chart: usize,
+    pub queries: usize,
+    pub rooms: usize,
+    pub batches: usize,
+    pub log: usize,
 }
 
-pub fn read_header(line: &[u8]) -> Header
+#[tactic(auto, unfolding(crate::specs::Header::header_of))]
+pub fn read_header(line: &[u8]) -> Option<Sizes>
     ensures { result ≡ header_of line.now }
 {
-    if line.len() != 41 {
-        return Header::Broken;
+    if line.len() != HEADER {
+        return None;
     }
     let mut row = [0i64; 5];
     if !tables::line(line, 0, &mut row) {
-        return Header::Broken;
+        return None;
     }
-    let chart = size(row[0]);
-    let queries = size(row[1]);
-    let rooms = size(row[2]);
-    let batches = size(row[3]);
-    let log = size(row[4]);
-    sizes(chart, queries, rooms, batches, log)
+    Some(Sizes {
+        chart: size(row[0])?,
+        queries: size(row[1])?,
+        rooms: size(row[2])?,
+        batches: size(row[3])?,
+        log: size(row[4])?,
+    })
 }
 
-fn size(z: i64) -> usize
+fn size(z: i64) -> Option<usize>
     ensures { result ≡ size_of z }
 {
-    if z < 0 {
-        return LIMIT;
-    }
-    z as usize
-}
-
-fn sizes(chart: usize, queries: usize, rooms: usize, batches: usize, log: usize) -> Header
-    ensures { result ≡ sizes_of chart queries rooms batches log }
-{
-    if LIMIT <= chart {
-        return Header::Broken;
-    }
-    if LIMIT <= queries {
-        return Header::Broken;
-    }
-    if LIMIT <= rooms {
-        return Header::Broken;
-    }
-    if LIMIT <= batches {
-        return Header::Broken;
-    }
-    if LIMIT <= log {
-        return Header::Broken;
-    }
-    Header::Sizes(chart, queries, rooms, batches, log)
+    usize::try_from(z).ok()
 }

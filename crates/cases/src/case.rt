@@ -1,40 +1,51 @@
 // The answers to one case, in the oracle's order.
+use case_files::Texts;
+use case_text::LIMIT;
+use case_text::stop::Stop;
+use std::alloc::Global;
+use std::io;
+use std::io::Write;
 
-// So many bytes fill the buffer of the log: the text was cut there, or may have been.
-const CUT: usize = 65536;
-
-// A text that is broken ends its case.
-pub fn answers(chart: &[u8], text: &[u8], lengths: &[u8], accounts: &[u8], log: &[u8]) {
-    let number = estivolh::check(chart);
-    answer_lines::verdict(number);
-    case_written::lines(chart);
-    if !case_rooms::all_rooms(chart, lengths) {
-        answer_lines::broken_rooms();
-        return;
-    }
-    if !case_queries::loads(chart, number, text) {
-        answer_lines::broken_queries();
-        return;
-    }
-    if !case_batches::all_batches(chart, accounts) {
-        answer_lines::broken_batch();
-        return;
-    }
-    if !run(chart, log) {
-        answer_lines::broken_log();
+// Prints the lines of a case.
+pub fn print<W: Write>(out: &mut W, alloc: Global, texts: &Texts) -> io::Result<()> {
+    match answers(out, alloc, texts) {
+        Ok(()) => Ok(()),
+        Err(stop) => print_stop(out, stop),
     }
 }
 
-// What 01's program prints for a log that is not empty. Whether all of it is there.
-fn run(chart: &[u8], log: &[u8]) -> bool {
-    if log.len() == 0 {
-        return true;
+// Prints the line that takes the place of the answers to what is broken.
+pub fn print_stop<W: Write>(out: &mut W, stop: Stop) -> io::Result<()> {
+    match stop {
+        Stop::Io(e) => Err(e),
+        Stop::Memory(e) => Err(io::Error::from(e)),
+        broken => writeln!(out, "{broken}"),
     }
-    if CUT <= log.len() {
-        return false;
+}
+
+// A text that is broken ends its case.
+fn answers<W: Write>(out: &mut W, alloc: Global, texts: &Texts) -> Result<(), Stop> {
+    let found = estivolh::check(&texts.chart);
+    answer_lines::verdict(out, found)?;
+    case_written::lines(out, &texts.chart)?;
+    case_rooms::rooms(out, &texts.chart, &texts.rooms)?;
+    if found.is_ok() {
+        case_queries::loads(out, &texts.chart, &texts.queries)?;
     }
-    let mut out = io::large_buffer();
-    let n = program::print(chart, log.len(), log, &mut out);
-    answer_lines::word(&out[..n]);
-    true
+    case_batches::batches(out, alloc, &texts.chart, &texts.batches)?;
+    run(out, &texts.chart, &texts.log)
+}
+
+// What 01's program prints for a log that is not empty.
+fn run<W: Write>(out: &mut W, chart: &[u8], log: &[u8]) -> Result<(), Stop> {
+    if log.is_empty() {
+        return Ok(());
+    }
+    if LIMIT <= log.len() {
+        return Err(Stop::Log);
+    }
+    let mut text = [0u8; LIMIT];
+    let n = program::print(chart, log.len(), log, &mut text);
+    out.write_all(&text[..n])?;
+    Ok(())
 }

@@ -18,7 +18,6 @@ use Rattle.locate.specs.declared.Location.{Location}
 use Rattle.locate.specs.declared.Location.TheVariants.{OnVertex, OnEdge, OnFace, OutsideOfConvexHull}
 use Rattle.locate.specs.Laws.{Holds}
 use Rattle.neighbors.specs.Neighbors.{finished, face_search, edge_search, face_neighbors, inner_edge_neighbors, edge_neighbors, part_of_convex_hull, neighbors_of}
-use Rattle.flips.specs.Stack.{Roomy}
 use Rattle.neighbors.specs.Counting.{face-length, edge-length}
 
 module _ (c : Chart) (a : Accepted c) where
@@ -78,10 +77,6 @@ module _ (c : Chart) (a : Accepted c) where
 
   pub more_edges : c.faces + 2 ≤ c.half_edges
   more_edges = two-more
-
-  -- what the calls of `neighbors` ask of a chart and a lent slice
-  pub roomy : (n : ℕ) → c.half_edges ≤ n → Roomy c n
-  roomy n l = record { faces-few = a.counts.f-most; edges_few = a.counts.e-most; faces-edges = two-more; room_in = l }
 
   -- no more faces are opened than there are
   face-most : (q : Place) (f : ℕ) → (face_neighbors c q f).opened ≤ c.faces

@@ -1,9 +1,9 @@
 -- 01, "Charge, entry, book": the charge of a value. A finite value is exactly x / d, with x = ± m * up e and d = down e.
-use Rattle.std.specs.Prelude.{ℕ, ◌+◌, ◌*◌, ◌/◌, Bool, true, false, cond, ℤ, pos, ◌+ℤ◌, ◌-ℤ◌, ◌*ℤ◌, ◌≤ℤ◌, ◌<ℤ◌, nat_le, nat_lt, Float}
+use Rattle.std.specs.Prelude.{ℕ, ◌+◌, ◌*◌, ◌/◌, Bool, true, false, cond, ℤ, pos, ◌+ℤ◌, ◌-ℤ◌, ◌*ℤ◌, ◌≤ℤ◌, ◌<ℤ◌, nat_le, nat_lt, Float, Result, Ok, Err}
 use Rattle.std.specs.Float.{nan, inf, fin}
 use Rattle.std.specs.Float.Ieee.{up, down}
-use Rattle.charge.specs.declared.Charged.{Charged}
-use Rattle.charge.specs.declared.Charged.TheVariants.{Whole, Refused}
+use Rattle.refusal.specs.declared.Refusal.{Refusal}
+use Rattle.refusal.specs.Number.{number}
 
 -- the largest charge: a value of at least 1,000,000.5 is refused (row 16)
 abbrev pub charge_max : ℕ
@@ -54,6 +54,6 @@ charge_case f g (whole n) = f n
 charge_case f g (turned_down k) = g k
 
 -- what each case of the call's answer says, in 01's numbers
-abbrev pub charge_says : Charged → Cost
-charge_says (Whole n) = whole n
-charge_says (Refused k) = turned_down k
+abbrev pub charge_says : Result ℕ Refusal → Cost
+charge_says (Ok n) = whole n
+charge_says (Err r) = turned_down (number r)

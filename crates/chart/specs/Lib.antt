@@ -1,3 +1,4 @@
 pub mod Limits
 pub mod Tables
 pub mod Chart
+pub mod Seen

@@ -1,4 +1,5 @@
-// The chart's tables, three flat slices in file order, and the accessors by which every other function reads them.
+// The chart's tables, three flat slices in file order, and the accessors by which every other function reads them: of tables whose numbers are in
+// range, the methods of `Chart`.
 //     vertices: x, y, value, out half-edge    edges (half-edges): origin, next, prev, face    faces: adjacent half-edge
 #![tactic(auto)]
 
@@ -7,7 +8,10 @@ ghost use Rattle.geometry.specs.Plane.{OnGrid};
 ghost use Rattle.chart.specs.Tables.{unsigned, rows, place_of, value_of, out_of, origin_of, next_of, prev_of, face_of, adjacent_of};
 ghost use Rattle.chart.specs.Chart.{chart_of, partner, InRange};
 
+mod tables;
+
 use geometry::Place;
+pub use tables::Chart;
 
 // Room for the tables of the largest chart.
 pub fn vertex_room() -> [i64; 512]
@@ -103,22 +107,4 @@ pub fn partner_of(h: usize) -> usize
     ensures { result ≡ partner h }
 {
     if h % 2 == 0 { h + 1 } else { h - 1 }
-}
-
-// The place where half-edge h starts.
-pub fn from_of(vertices: &[i64], edges: &[usize], faces: &[usize], h: usize) -> Place
-    requires fact_1 { InRange (chart_of vertices.now edges.now faces.now) }
-    requires fact_2 { h < rows edges.now }
-    ensures { (result ≡ place_of vertices.now (origin_of edges.now h)) × OnGrid result }
-{
-    place_of(vertices, origin_of(edges, h))
-}
-
-// The place where half-edge h ends: where its partner starts.
-pub fn to_of(vertices: &[i64], edges: &[usize], faces: &[usize], h: usize) -> Place
-    requires fact_1 { InRange (chart_of vertices.now edges.now faces.now) }
-    requires fact_2 { h < rows edges.now }
-    ensures { (result ≡ place_of vertices.now (origin_of edges.now (partner h))) × OnGrid result }
-{
-    from_of(vertices, edges, faces, partner_of(h))
 }

@@ -1,13 +1,11 @@
 -- Which numbers refuse tables. Assumes nothing.
-use Rattle.std.specs.Prelude.{◌≡◌, refl, true, List, [], ◌∷◌, ℕ, ℤ}
+use Rattle.std.specs.Prelude.{◌≡◌, refl, true, List, [], ◌∷◌, ℕ}
 use Rattle.whole.specs.Among.{among, among-cond}
 use Rattle.whole.specs.First.{some}
-use Rattle.chart.specs.Tables.{unsigned_all}
-use Rattle.chart.specs.Chart.{Chart, chart_of}
-use Rattle.ranges.specs.Ranges.{out_of_range}
+use Rattle.chart.specs.Chart.{Chart}
 use Rattle.links.specs.Links.{links_broken}
 use Rattle.delaunay.specs.Delaunay.{shares_place, not_left, overhung, crowded}
-use Rattle.checks.specs.Checks.{chart_refusal, tables_refusal}
+use Rattle.checks.specs.Checks.{chart_refusal}
 
 -- 01's rows of tables
 abbrev pub of_tables : List ℕ

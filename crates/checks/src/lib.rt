@@ -2,69 +2,77 @@
 #![tactic(auto)]
 
 ghost use Rattle.std.specs.Prelude.{◌≡◌, ◌*◌, ◌≤◌, ◌%◌, length};
+ghost use Rattle.refusal.specs.Number.{refusal_of};
 ghost use Rattle.chart.specs.Limits.{most_vertices};
 ghost use Rattle.chart.specs.Tables.{rows, unsigned_all};
-ghost use Rattle.chart.specs.Chart.{chart_of, InRange};
+ghost use Rattle.chart.specs.Seen.{seen};
 ghost use Rattle.checks.specs.Taken.{Unsigned};
 ghost use Rattle.checks.specs.Checks.{chart_refusal, tables_refusal, told};
 
-// A table of numbers that 6 has let pass, as unsigned ones: none is negative, so that this is a plain copy.
+use chart::Chart;
+use refusal::Refusal;
+
+// A table of numbers that 6 has let pass, as unsigned ones: none is negative, so that this is a plain copy. It goes by the index: of the elements that an
+// adapter of `iter_mut`, as `zip`, hands out nothing is known afterwards.
 fn take_over(signed: &[i64], table: &mut [usize])
-    requires fact_1 { length table.old ≡ length signed.now }
-    requires fact_2 { Unsigned signed.now }
+    requires same_length { length table.old ≡ length signed.now }
+    requires not_negative { Unsigned signed.now }
     ensures { table.new ≡ unsigned_all signed.now }
 {
-    let mut i = 0;
-    while i < signed.len() {
-        table[i] = signed[i] as usize;
-        i += 1;
+    for (i, to) in table.iter_mut().enumerate() {
+        *to = signed[i] as usize;
     }
 }
 
-// 7 to 11, or 0, of a chart whose numbers are in range.
-fn chart_refusal(vertices: &[i64], edges: &[usize], faces: &[usize]) -> u64
-    requires fact_1 { InRange (chart_of vertices.now edges.now faces.now) }
-    requires fact_2 { rows vertices.now ≤ most_vertices }
-    ensures { result ≡ chart_refusal (chart_of vertices.now edges.now faces.now) }
+// 7 to 11, of a chart whose numbers are in range.
+#[tactic(auto, unfolding(crate::specs::Checks::chart_refusal))]
+fn chart_refusal(chart: &Chart) -> Result<(), Refusal>
+    requires { (seen chart.now).vertices ≤ most_vertices }
+    ensures { refusal_of result ≡ chart_refusal (seen chart.now) }
 {
-    if links::links_broken(vertices, edges, faces) {
-        return 7;
+    if links::links_broken(chart) {
+        return Err(Refusal::Links);
     }
-    if delaunay::some_share_place(vertices, edges, faces) {
-        return 8;
+    if delaunay::some_share_place(chart) {
+        return Err(Refusal::Places);
     }
-    if delaunay::some_not_left(vertices, edges, faces) {
-        return 9;
+    if delaunay::some_not_left(chart) {
+        return Err(Refusal::Turn);
     }
-    if delaunay::some_overhung(vertices, edges, faces) {
-        return 10;
+    if delaunay::some_overhung(chart) {
+        return Err(Refusal::Rim);
     }
     // 11 of what is left: across one edge (crate nearby, `crowded-pressed`)
-    if across::some_pressed(vertices, edges, faces) {
-        return 11;
+    if across::some_pressed(chart) {
+        return Err(Refusal::Circle);
     }
-    0
+    Ok(())
 }
 
-// 6 to 11, or 0, of three tables; then edges and faces have their numbers as unsigned ones.
+// 6 to 11, of three tables; where none meets them, edges and faces have their numbers as unsigned ones.
+#[tactic(auto, unfolding(crate::specs::Checks::tables_refusal))]
 pub fn tables_refusal(
     vertices: &[i64],
     edgecells: &[i64],
     facecells: &[i64],
     edges: &mut [usize],
     faces: &mut [usize],
-) -> u64
-    requires fact_1 { rows vertices.now ≤ most_vertices }
-    requires fact_2 { rows edgecells.now % 2 ≡ 0 }
-    requires fact_3 { length edges.old ≡ length edgecells.now }
-    requires fact_4 { length faces.old ≡ length facecells.now }
-    requires fact_5 { length edgecells.now ≡ 4 * rows edgecells.now }
-    ensures { told (tables_refusal vertices.now edgecells.now facecells.now) vertices.now (unsigned_all edgecells.now) (unsigned_all facecells.now) ≡ told result vertices.now edges.new faces.new }
+) -> Result<(), Refusal>
+    requires vertex_count { rows vertices.now ≤ most_vertices }
+    requires pairs { rows edgecells.now % 2 ≡ 0 }
+    requires edge_room { length edges.old ≡ length edgecells.now }
+    requires face_room { length faces.old ≡ length facecells.now }
+    requires whole_rows { length edgecells.now ≡ 4 * rows edgecells.now }
+    ensures { told (tables_refusal vertices.now edgecells.now facecells.now) vertices.now (unsigned_all edgecells.now) (unsigned_all facecells.now) ≡ told (refusal_of result) vertices.now edges.new faces.new }
 {
     if ranges::out_of_range(vertices, edgecells, facecells) {
-        return 6;
+        return Err(Refusal::Range);
     }
     take_over(edgecells, edges);
     take_over(facecells, faces);
-    chart_refusal(vertices, edges, faces)
+    chart_refusal(&Chart {
+        vertices,
+        edges,
+        faces,
+    })
 }

@@ -1,7 +1,7 @@
 // A number put into the columns of a field: every field of a chart's text and of the program's lines is written by `put_columns`.
 #![tactic(auto)]
 
-ghost use Rattle.std.specs.Prelude.{◌≡◌, [], ◌∷◌, ◌+◌, ◌%◌, ◌≤◌, ◌<◌, length, nat_abs};
+ghost use Rattle.std.specs.Prelude.{◌≡◌, [], ◌∷◌, ◌+◌, ◌%◌, ◌≤◌, ◌<◌, length};
 ghost use Rattle.text.specs.Field.{last_digit, field_text};
 ghost use Rattle.columns.specs.Laid.{laid};
 ghost use Rattle.columns.specs.Printed.{printed, line_feed};
@@ -17,40 +17,32 @@ fn digit(n: u64) -> u8
 fn column(sign: u8, n: u64) -> u8
     ensures { result ≡ column_byte sign n }
 {
-    if n == 0 {
-        return sign;
-    }
-    digit(n)
+    if n == 0 { sign } else { digit(n) }
 }
 
 // The sign that is still to be written before that column: a space once it is.
 fn sign_left(sign: u8, n: u64) -> u8
     ensures { result ≡ sign_left sign n }
 {
-    if n == 0 {
-        return b' ';
-    }
-    sign
+    if n == 0 { b' ' } else { sign }
 }
 
 // A number with its sign into all the columns of a field, the last column first. Of a number that does not fit the last digits are put.
-fn put_digits(field: &mut [u8], sign: u8, n: u64)
+fn put_digits(field: &mut [u8], mut sign: u8, mut n: u64)
     requires { 0 < length field.old }
     ensures { field.new ≡ last_digit (length field.old) sign n }
 {
-    let mut k = field.len() - 1;
-    field[k] = digit(n);
-    let mut left = n / 10;
-    let mut g = sign;
-    while 0 < k {
-        k -= 1;
-        field[k] = column(g, left);
-        g = sign_left(g, left);
-        left = left / 10;
+    let last = field.len() - 1;
+    field[last] = digit(n);
+    for k in (0..last).rev() {
+        n /= 10;
+        field[k] = column(sign, n);
+        sign = sign_left(sign, n);
     }
 }
 
 // A number with its sign into w columns from `at`. Here and below the answer is where what was put ends.
+// A cursor that held the buffer and the place would be no plainer: each function would say as well that it still holds the same buffer.
 fn put_columns(out: &mut [u8], at: usize, w: usize, sign: u8, n: u64) -> usize
     requires { (0 < w) × (at + w ≤ length out.old) }
     ensures { (result ≡ at + w) × (out.new ≡ laid out.old at (last_digit w sign n)) }
@@ -61,6 +53,7 @@ fn put_columns(out: &mut [u8], at: usize, w: usize, sign: u8, n: u64) -> usize
 }
 
 // A number that is never below 0.
+#[tactic(auto, unfolding(text::specs::Field::field_text))]
 pub fn put_number(out: &mut [u8], at: usize, w: usize, n: u64) -> usize
     requires { (0 < w) × (at + w ≤ length out.old) }
     ensures { (result ≡ at + w) × (out.new ≡ laid out.old at (printed w n)) }
@@ -72,29 +65,16 @@ pub fn put_number(out: &mut [u8], at: usize, w: usize, n: u64) -> usize
 fn sign(z: i64) -> u8
     ensures { result ≡ sign_of z }
 {
-    if z < 0 {
-        return b'-';
-    }
-    b' '
-}
-
-// A number without its sign.
-pub fn magnitude(z: i64) -> u64
-    ensures { result ≡ nat_abs z }
-{
-    if z < 0 {
-        // 1 is added last: the magnitude of the least number is no i64
-        return (-1 - z) as u64 + 1;
-    }
-    z as u64
+    if z < 0 { b'-' } else { b' ' }
 }
 
 // Any number.
+#[tactic(auto, using(crate::proofs::Laws::text_signed))]
 pub fn put_field(out: &mut [u8], at: usize, w: usize, z: i64) -> usize
     requires { (0 < w) × (at + w ≤ length out.old) }
     ensures { (result ≡ at + w) × (out.new ≡ laid out.old at (field_text w z)) }
 {
-    put_columns(out, at, w, sign(z), magnitude(z))
+    put_columns(out, at, w, sign(z), z.unsigned_abs())
 }
 
 pub fn put_line_end(out: &mut [u8], at: usize) -> usize

@@ -3,10 +3,9 @@ use mathlib.Core.Path.{◌≡◌, sym, ap, ◌∙◌}
 use mathlib.Core.Bool.{Bool, true, false, false≢true}
 use mathlib.Core.List.{List}
 use Prim.Native.Nat.{ℕ, ◌+◌, ◌<◌}
-use native.Mathlib.Nat.{not-suc-le-zero}
 use native.Mathlib.Decide.{ℕ_discrete}
 use lib.IntN.{ℤ}
-use lib.ListN.{length, get_or, set, replicate, length-replicate, length-set}
+use lib.ListN.{length, get_or, set, length-set}
 use lib.Seq.{get_or-set_same, get_or-set_other}
 use borrow.Author.Count.{below_more}
 use Rattle.whole.specs.Bools.{and-true, is_false}
@@ -28,14 +27,6 @@ module _ (place : ℕ → Place) where
     pub size : length met ≡ bucket_count
     pub seen : (k : ℕ) → k < v → get_or met (bucket_of (place k)) false ≡ true
     pub none : (k : ℕ) → k < v → some (stands_at place (place k)) k ≡ false
-
-  pub met-none : Met (replicate bucket_count false) 0
-  met-none =
-      record {
-        size = length-replicate bucket_count false;
-        seen = λ k m. absurd (not-suc-le-zero m);
-        none = λ k m. absurd (not-suc-le-zero m);
-      }
 
   module _ (met : List Bool) (v b : ℕ) (s : Met met v) (e : b ≡ bucket_of (place v)) where
     -- a vertex whose bucket is not met shares no place

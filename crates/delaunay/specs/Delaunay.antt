@@ -1,11 +1,10 @@
 -- 01, "Where a call can be turned down", rows 8 to 11: what the places of a linked chart are asked.
-use Rattle.std.specs.Prelude.{Bool, not, ◌&&◌, List, ℕ, ◌<◌, ltb, ℤ, pos}
+use Rattle.std.specs.Prelude.{Bool, not, ◌&&◌, ℕ, ltb, pos}
 use Rattle.std.specs.Int.Signed.{lt_z}
 use Rattle.whole.specs.Test.{eq_z}
 use Rattle.whole.specs.First.{some}
 use Rattle.geometry.specs.declared.Place.{Place}
-use Rattle.geometry.specs.Plane.{OnGrid, side, circle}
-use Rattle.chart.specs.Tables.{rows, place_of}
+use Rattle.geometry.specs.Plane.{side, circle}
 use Rattle.chart.specs.Chart.{Chart, from_of, to_of, outer, corner₀, corner₁, corner₂}
 
 -- 8: two vertices at one place. Vertex w is at the place p
@@ -40,7 +39,3 @@ in_circle c q f = lt_z (pos 0) (circle (c.place (corner₀ c f)) (c.place (corne
 
 abbrev pub crowded : Chart → ℕ → Bool
 crowded c f = ltb 0 f && some (λ v. in_circle c (c.place v) f) c.vertices
-
--- every vertex is on the grid
-pub record Gridded (vs : List ℤ) : Type 0 where
-  pub places : (v : ℕ) → v < rows vs → OnGrid (place_of vs v)

@@ -1,15 +1,17 @@
 // Refusals 8 to 10: places, turns and rim (01, "Where a call can be turned down"). The definition of 11 stands beside theirs; its code is in `across`.
 #![tactic(auto)]
 
-ghost use Rattle.std.specs.Prelude.{◌≡◌, false, ◌<◌, length, replicate};
+ghost use Rattle.std.specs.Prelude.{◌≡◌, ◌<◌};
+ghost use Rattle.std.specs.Int.Signed.{lt_z};
 ghost use Rattle.whole.specs.First.{some};
-ghost use Rattle.geometry.specs.Plane.{OnGrid};
-ghost use Rattle.chart.specs.Tables.{rows, place_of};
-ghost use Rattle.chart.specs.Chart.{chart_of, InRange};
-ghost use Rattle.delaunay.specs.Buckets.{bucket_count, bucket_of};
-ghost use Rattle.delaunay.specs.Delaunay.{Gridded, same_place, stands_at, lies_left, shares_place, not_left, overhung};
+ghost use Rattle.geometry.specs.Plane.{Near, cross_of};
+ghost use Rattle.geometry.specs.Grid.{at};
+ghost use Rattle.chart.specs.Seen.{seen};
+ghost use Rattle.delaunay.specs.Buckets.{bucket_of};
+ghost use Rattle.delaunay.specs.Delaunay.{stands_at, lies_left, shares_place, not_left, overhung};
 
-use geometry::Place;
+use chart::Chart;
+use geometry::{GridPlace, Place};
 
 // How many buckets the places are sorted into: a prime, so that those of a lattice spread.
 const BUCKETS: usize = 509;
@@ -20,146 +22,96 @@ const SPREAD: i64 = 32;
 // What lifts the sum from the grid to numbers that are not negative.
 const LIFT: i64 = (SPREAD + 1) * geometry::GRID;
 
-// Whether two places are one.
-pub fn is_same_place(p: Place, q: Place) -> bool
-    ensures { result ≡ same_place p q }
+// Whether vertex w is at the place p.
+fn stands_at(chart: &Chart, p: GridPlace, w: usize) -> bool
+    requires { w < (seen chart.now).vertices }
+    ensures { result ≡ stands_at (seen chart.now).place (at p) w }
 {
-    if p.x != q.x {
-        return false;
-    }
-    p.y == q.y
+    chart.place(w) == p
 }
 
 // Whether a vertex of a number below v is at the place p.
-fn some_below_at(vertices: &[i64], v: usize, p: Place) -> bool
-    requires { v < rows vertices.now }
-    ensures { result ≡ some (stands_at (place_of vertices.now) p) v }
+fn some_below_at(chart: &Chart, p: GridPlace, v: usize) -> bool
+    requires { v < (seen chart.now).vertices }
+    ensures { result ≡ some (stands_at (seen chart.now).place (at p)) v }
 {
-    let mut w = 0;
-    while w < v {
-        if is_same_place(chart::place_of(vertices, w), p) {
-            return true;
-        }
-        w += 1;
-    }
-    false
-}
-
-// No bucket has a vertex yet.
-fn no_bucket() -> [bool; BUCKETS]
-    ensures { result ≡ replicate bucket_count false }
-{
-    [false; BUCKETS]
+    (0..v).any(|w| stands_at(chart, p, w))
 }
 
 // The bucket of a place of the grid.
-fn bucket_of(p: Place) -> usize
-    requires { OnGrid p }
-    ensures { result ≡ bucket_of p }
+fn bucket_of(p: GridPlace) -> usize
+    ensures { result ≡ bucket_of (at p) }
 {
     chart::to_unsigned(p.x + p.y * SPREAD + LIFT) % BUCKETS
 }
 
 // 8: two vertices at one place. Those at one place have one bucket, so the vertices below v are scanned only where its bucket has one.
-pub fn some_share_place(vertices: &[i64], edges: &[usize], faces: &[usize]) -> bool
-    requires { InRange (chart_of vertices.now edges.now faces.now) }
-    ensures { result ≡ some (shares_place (chart_of vertices.now edges.now faces.now)) (rows vertices.now) }
+pub fn some_share_place(chart: &Chart) -> bool
+    ensures { result ≡ some (shares_place (seen chart.now)) (seen chart.now).vertices }
 {
-    let n = vertices.len() / 4;
-    let mut met = no_bucket();
-    let mut v = 0;
-    while v < n {
-        let p = chart::place_of(vertices, v);
+    let mut met = [false; BUCKETS];
+    for v in 0..chart.vertex_count() {
+        let p = chart.place(v);
         let b = bucket_of(p);
-        if met[b] {
-            if some_below_at(vertices, v, p) {
-                return true;
-            }
+        if met[b] && some_below_at(chart, p, v) {
+            return true;
         }
         met[b] = true;
-        v += 1;
     }
     false
+}
+
+// Whether the product of u and the place of vertex v is above k.
+fn is_past(chart: &Chart, u: Place, k: i64, v: usize) -> bool
+    requires near { Near u }
+    requires below { v < (seen chart.now).vertices }
+    ensures { result ≡ lt_z k (cross_of u ((seen chart.now).place v)) }
+{
+    k < geometry::cross(u, chart.place(v).into())
 }
 
 // Whether some vertex is strictly left of a to b: of the vector u from a, the side of q is u × q less u × a, so u × a is worked out once.
-fn some_left(vertices: &[i64], a: Place, b: Place) -> bool
-    requires fact_1 { Gridded vertices.now }
-    requires fact_2 { OnGrid a }
-    requires fact_3 { OnGrid b }
-    ensures { result ≡ some (lies_left (place_of vertices.now) a b) (rows vertices.now) }
+fn some_left(chart: &Chart, a: GridPlace, b: GridPlace) -> bool
+    ensures { result ≡ some (lies_left (seen chart.now).place (at a) (at b)) (seen chart.now).vertices }
 {
-    let n = vertices.len() / 4;
     let u = geometry::vector(a, b);
-    let k = geometry::cross(u, a);
-    let mut v = 0;
-    while v < n {
-        if k < geometry::cross(u, chart::place_of(vertices, v)) {
-            return true;
-        }
-        v += 1;
-    }
-    false
+    let k = geometry::cross(u, a.into());
+    (0..chart.vertex_count()).any(|v| is_past(chart, u, k, v))
 }
 
 // Whether an inner face's corners don't turn strictly left.
-fn is_not_left(vertices: &[i64], edges: &[usize], faces: &[usize], f: usize) -> bool
-    requires fact_1 { InRange (chart_of vertices.now edges.now faces.now) }
-    requires fact_2 { f < length faces.now }
-    ensures { result ≡ not_left (chart_of vertices.now edges.now faces.now) f }
+fn is_not_left(chart: &Chart, f: usize) -> bool
+    requires { f < (seen chart.now).faces }
+    ensures { result ≡ not_left (seen chart.now) f }
 {
     if f == 0 {
         return false;
     }
-    let h = chart::adjacent_of(faces, f);
-    let a = chart::from_of(vertices, edges, faces, chart::prev_of(edges, h));
-    let b = chart::from_of(vertices, edges, faces, h);
-    let c = chart::from_of(vertices, edges, faces, chart::next_of(edges, h));
+    let h = chart.adjacent(f);
+    let a = chart.from(chart.prev(h));
+    let b = chart.from(h);
+    let c = chart.from(chart.next(h));
     !geometry::is_on_left_side(a, b, c)
 }
 
 // Whether a vertex is strictly left of the outer half-edge h.
-fn is_overhung(vertices: &[i64], edges: &[usize], faces: &[usize], h: usize) -> bool
-    requires fact_1 { InRange (chart_of vertices.now edges.now faces.now) }
-    requires fact_2 { h < rows edges.now }
-    ensures { result ≡ overhung (chart_of vertices.now edges.now faces.now) h }
+fn is_overhung(chart: &Chart, h: usize) -> bool
+    requires { h < (seen chart.now).half_edges }
+    ensures { result ≡ overhung (seen chart.now) h }
 {
-    if chart::face_of(edges, h) != 0 {
-        return false;
-    }
-    let a = chart::from_of(vertices, edges, faces, h);
-    let b = chart::to_of(vertices, edges, faces, h);
-    some_left(vertices, a, b)
+    chart.face(h) == 0 && some_left(chart, chart.from(h), chart.to(h))
 }
 
 // 9: an inner face whose corners don't turn strictly left.
-pub fn some_not_left(vertices: &[i64], edges: &[usize], faces: &[usize]) -> bool
-    requires { InRange (chart_of vertices.now edges.now faces.now) }
-    ensures { result ≡ some (not_left (chart_of vertices.now edges.now faces.now)) (length faces.now) }
+pub fn some_not_left(chart: &Chart) -> bool
+    ensures { result ≡ some (not_left (seen chart.now)) (seen chart.now).faces }
 {
-    let n = faces.len();
-    let mut f = 0;
-    while f < n {
-        if is_not_left(vertices, edges, faces, f) {
-            return true;
-        }
-        f += 1;
-    }
-    false
+    (0..chart.face_count()).any(|f| is_not_left(chart, f))
 }
 
 // 10: a vertex strictly left of an outer half-edge.
-pub fn some_overhung(vertices: &[i64], edges: &[usize], faces: &[usize]) -> bool
-    requires { InRange (chart_of vertices.now edges.now faces.now) }
-    ensures { result ≡ some (overhung (chart_of vertices.now edges.now faces.now)) (rows edges.now) }
+pub fn some_overhung(chart: &Chart) -> bool
+    ensures { result ≡ some (overhung (seen chart.now)) (seen chart.now).half_edges }
 {
-    let n = edges.len() / 4;
-    let mut h = 0;
-    while h < n {
-        if is_overhung(vertices, edges, faces, h) {
-            return true;
-        }
-        h += 1;
-    }
-    false
+    (0..chart.half_edge_count()).any(|h| is_overhung(chart, h))
 }

@@ -3,7 +3,7 @@ use Rattle.std.specs.Prelude.{◌≡◌, refl, List, [], ◌∷◌, ◌++◌, co
 use Rattle.std.proofs.Common.{sym, ◌∙◌, ap, subst, append-nil, arith, length-drop, get_or-take, get_or-drop, length-take-le, eq-eqb, le-ltb}
 use Rattle.reading.specs.Reading.{chart_refusal_of}
 use Rattle.book.specs.declared.Book.{Book}
-use Rattle.book.specs.declared.Returned.{Returned}
+use Rattle.book.specs.Returned.{Returned}
 use Rattle.book.specs.Books.{section_max}
 use Rattle.entries.specs.declared.Entry.{Entry}
 use Rattle.entries.specs.Entry.{entry_width, entry_at, entries_from, entries_of}

@@ -25,21 +25,17 @@ pub fn both_ways(
     first: &mut [u64],
     second: &mut [u64],
 ) -> Both
-    requires fact_1 { (1 ≤ sections) × (sections ≤ section_max) }
-    requires fact_2 { Divisible chart.now (length entries.now) cut (length whole.old) (length first.old) (length second.old) }
+    requires sections { (1 ≤ sections) × (sections ≤ section_max) }
+    requires divisible { Divisible chart.now (length entries.now) cut (length whole.old) (length first.old) (length second.old) }
     ensures { Alike sections chart.now entries.now cut result whole.new first.new second.new }
 {
-    let start = estivolh::fresh(sections);
-    let book = start.book;
-    let once = estivolh::batch(book, chart, entries, whole);
+    let book = estivolh::fresh(sections).unwrap_or_default();
+    let once = estivolh::batch(book, chart, entries, whole).unwrap_or(book);
     let at = cut * ENTRY_WIDTH;
-    let part = estivolh::batch(book, chart, &entries[..at], first);
-    let between = part.book;
-    let rest = estivolh::batch(between, chart, &entries[at..], second);
-    let in_one = once.book;
-    let in_two = rest.book;
+    let between = estivolh::batch(book, chart, &entries[..at], first).unwrap_or(book);
+    let last = estivolh::batch(between, chart, &entries[at..], second).unwrap_or(between);
     Both {
-        whole: in_one,
-        divided: in_two,
+        whole: once,
+        divided: last,
     }
 }

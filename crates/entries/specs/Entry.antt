@@ -1,10 +1,16 @@
 -- 01, "Charge, entry, book" and row 12: an entry.
-use Rattle.std.specs.Prelude.{List, [], ◌∷◌, Bool, true, not, cond, ◌&&◌, ◌||◌, ℕ, zero, suc, ◌+◌, ◌/◌, eqb, ℤ, pos, length, get_or}
+use Rattle.std.specs.Prelude.{List, [], ◌∷◌, Bool, true, not, cond, ◌&&◌, ◌||◌, ℕ, zero, suc, ◌+◌, ◌/◌, eqb, ℤ, pos, length, get_or, Result, Ok, Err}
 use Rattle.whole.specs.Test.{eq_z}
 use Rattle.geometry.specs.declared.Place.{Place}
 use Rattle.ranges.specs.Ranges.{not_below}
+use Rattle.values.specs.Method.{number_of}
 use Rattle.values.specs.Value.{method_of}
+use Rattle.chart.specs.Tables.{unsigned}
+use Rattle.refusal.specs.declared.Refusal.{Refusal}
+use Rattle.refusal.specs.Number.{number}
 use Rattle.entries.specs.declared.Entry.{Entry}
+use Rattle.entries.specs.declared.KnownEntry.{KnownEntry}
+use Rattle.entries.specs.declared.KnownEntry.TheVariants.{Bend, Splice}
 
 -- an entry is kind, section, x, y, method, five signed numbers in the entry slice
 abbrev pub entry_width : ℕ
@@ -52,3 +58,20 @@ unknown s e = not_below s e.section || unknown_kind e.kind e.x e.y e.method
 -- the load
 abbrev pub place_in : Entry → Place
 place_in e = record { x = e.x; y = e.y }
+
+-- an entry that 12 lets pass, by its kind: a bend of a section, with its method and its load, or a splice; or the number of the refusal
+pub data Known : Type 0 where
+  bend : ℕ → ℕ → Place → Known
+  splice : ℕ → Known
+  turned_down : ℕ → Known
+
+-- what each case of the code's answer says, in 01's numbers
+abbrev pub known_says : Result KnownEntry Refusal → Known
+known_says (Ok (Bend i m q)) = bend i (number_of m) q
+known_says (Ok (Splice i)) = splice i
+known_says (Err r) = turned_down (number r)
+
+abbrev pub known_of : ℕ → Entry → Known
+known_of s e =
+    cond (unknown s e) (turned_down 12)
+    (cond (is_splice e.kind) (splice (unsigned e.section)) (bend (unsigned e.section) (method_of e.method) (place_in e)))

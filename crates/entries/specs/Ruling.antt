@@ -1,8 +1,22 @@
 -- 01, "Where a call can be turned down" and "Charge, entry, book": what becomes of an entry, row 17, and the answer.
-use Rattle.std.specs.Prelude.{Bool, cond, ◌||◌, ℕ, ◌+◌, ◌≤◌, ltb, eqb}
+use Rattle.std.specs.Prelude.{Bool, cond, ◌||◌, ℕ, ◌+◌, ltb, eqb, Result, Ok, Err}
+use Rattle.refusal.specs.declared.Refusal.{Refusal}
+use Rattle.refusal.specs.Number.{number}
 use Rattle.book.specs.Books.{account_max}
-use Rattle.entries.specs.declared.Ruling.{Ruling}
-use Rattle.entries.specs.declared.Ruling.TheVariants.{Bend, Splice, Refused}
+use Rattle.entries.specs.declared.Change.{Change}
+use Rattle.entries.specs.declared.Change.TheVariants as C
+
+-- a bend of a section with its charge, a splice of a section, or the number that refuses the entry
+pub data Ruling : Type 0 where
+  Bend : ℕ → ℕ → Ruling
+  Splice : ℕ → Ruling
+  Refused : ℕ → Ruling
+
+-- what each case of the code's answer says, in 01's numbers
+abbrev pub ruling_says : Result Change Refusal → Ruling
+ruling_says (Ok (C.Bend i n)) = Bend i n
+ruling_says (Ok (C.Splice i)) = Splice i
+ruling_says (Err r) = Refused (number r)
 
 -- 17: the charge would take the total above 10^12, or the section's count is 10^12
 abbrev pub meets17 : ℕ → ℕ → ℕ → Bool
@@ -23,13 +37,3 @@ abbrev pub answer_of : Ruling → ℕ
 answer_of (Bend i n) = n
 answer_of (Splice i) = 0
 answer_of (Refused k) = refused_entry + k
-
--- the refusals of an entry are at most 17: what the answer's sum asks
-abbrev pub last_refusal : ℕ
-last_refusal = 17
-
--- a refusal's number is one of them
-abbrev pub UpTo17 : Ruling → Type 0
-UpTo17 (Bend i n) = Unit {0}
-UpTo17 (Splice i) = Unit {0}
-UpTo17 (Refused k) = k ≤ last_refusal

@@ -15,8 +15,8 @@ use Rattle.values.specs.Value.{Answer, method_of}
 use Rattle.book.specs.declared.Book.{Book}
 use Rattle.book.specs.Books.{total_wear, count_of, bad_book}
 use Rattle.entries.specs.declared.Entry.{Entry}
-use Rattle.entries.specs.declared.Ruling.{Ruling}
-use Rattle.entries.specs.declared.Ruling.TheVariants as R
+use Rattle.entries.specs.Ruling.{Ruling}
+use Rattle.entries.specs.Ruling.{Ruling as R}
 use Rattle.entries.specs.Entry.{entries_of, is_splice, unknown, place_in}
 use Rattle.entries.specs.Ruling.{with17, answer_of}
 use Rattle.accounts.specs.Rulings.{Queries, bend_ruling, entry_ruling}

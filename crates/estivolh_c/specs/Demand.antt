@@ -3,11 +3,11 @@
 use Rattle.std.specs.Prelude.{◌≡◌, refl, Bool, false, cond, ltb, List, [], ◌∷◌, ℕ, zero, suc, ◌≤◌, ℤ, length, drop}
 use Rattle.std.proofs.Common.{sym, ap, ◌∙◌, subst, arith, length-set, length-drop, length-append, length-take-le, le-ltb, ltb-false}
 use Rattle.book.specs.declared.Book.{Book}
-use Rattle.book.specs.declared.Returned.{Returned}
+use Rattle.book.specs.Returned.{Returned}
 use Rattle.book.specs.Books.{section_max, bad_sections, zero_book, fresh_book}
 use Rattle.entries.specs.declared.Entry.{Entry}
-use Rattle.entries.specs.declared.Ruling.{Ruling}
-use Rattle.entries.specs.declared.Ruling.TheVariants.{Bend, Splice, Refused}
+use Rattle.entries.specs.Ruling.{Ruling}
+use Rattle.entries.specs.Ruling.Ruling.{Bend, Splice, Refused}
 use Rattle.entries.specs.Entry.{entries_of}
 use Rattle.accounts.specs.Batch.{book_change, book_verdict, book_after, batch_refusal, Outcome, by_refusal, batch_of}
 use Rattle.accounts.specs.Tally.{tally}

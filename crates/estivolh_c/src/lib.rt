@@ -10,6 +10,7 @@ ghost use Rattle.estivolh_c.specs.Queries.{locate_called, barycentric_called, ed
 ghost use Rattle.estivolh_c.specs.Writing.{text_left, write_called, InsertCalled};
 ghost use Rattle.estivolh_c.specs.Account.{charge_called, fresh_called, batch_left, batch_called};
 
+use refusal::Refusal;
 use slices::BOOK_NUMBERS;
 
 // Whether any bytes are an accepted chart (0), or which of the refusals 3 to 11 meets them first.
@@ -17,7 +18,10 @@ use slices::BOOK_NUMBERS;
 pub extern "C" fn estivolh_check(chart: &[u8]) -> u64
     ensures { result ≡ chart_refusal_of chart.now }
 {
-    estivolh::check(chart)
+    match estivolh::check(chart) {
+        Ok(()) => 0,
+        Err(refusal) => refusal.number(),
+    }
 }
 
 // Where the load at (x, y) lies: kind (1 vertex, 2 edge, 3 face, 4 outside) and number.
@@ -26,7 +30,7 @@ pub extern "C" fn estivolh_locate(chart: &[u8], x: i64, y: i64, position: &mut [
     ensures { left result position.new ≡ locate_called chart.now x y position.old }
 {
     if position.len() < 2 {
-        return 2;
+        return Refusal::Slices.number();
     }
     slices::put_position(estivolh::locate(chart, x, y), position)
 }
@@ -43,14 +47,8 @@ pub extern "C" fn estivolh_barycentric_weights(
 ) -> u64
     ensures { weights_left result vertices.new weights.new found.new ≡ barycentric_called chart.now x y vertices.old weights.old found.old }
 {
-    if vertices.len() < 3 {
-        return 2;
-    }
-    if weights.len() < 3 {
-        return 2;
-    }
-    if found.len() < 1 {
-        return 2;
+    if vertices.len() < 3 || weights.len() < 3 || found.is_empty() {
+        return Refusal::Slices.number();
     }
     let answer = estivolh::barycentric_weights(chart, x, y);
     slices::put_barycentric(answer, vertices, weights, found)
@@ -68,7 +66,7 @@ pub extern "C" fn estivolh_natural_neighbor_edges(
     ensures { edges_left result edges.new found.new ≡ edges_called chart.now x y edges.old found.old }
 {
     if found.len() < 2 {
-        return 2;
+        return Refusal::Slices.number();
     }
     let answer = estivolh::natural_neighbor_edges(chart, x, y, edges);
     slices::put_tally(answer, found)
@@ -87,7 +85,7 @@ pub extern "C" fn estivolh_natural_neighbor_weights(
     ensures { weights_left result vertices.new weights.new found.new ≡ shares_called chart.now x y vertices.old weights.old found.old }
 {
     if found.len() < 2 {
-        return 2;
+        return Refusal::Slices.number();
     }
     let answer = estivolh::natural_neighbor_weights(chart, x, y, vertices, weights);
     slices::put_tally(answer, found)
@@ -99,7 +97,7 @@ pub extern "C" fn estivolh_estimate_gradient(chart: &[u8], vertex: u64, gradient
     ensures { left result gradient.new ≡ gradient_called chart.now vertex gradient.old }
 {
     if gradient.len() < 2 {
-        return 2;
+        return Refusal::Slices.number();
     }
     slices::put_gradient(estivolh::estimate_gradient(chart, vertex), gradient)
 }
@@ -115,8 +113,8 @@ pub extern "C" fn estivolh_interpolate(
 ) -> u64
     ensures { left result value.new ≡ interpolate_called chart.now method x y value.old }
 {
-    if value.len() < 1 {
-        return 2;
+    if value.is_empty() {
+        return Refusal::Slices.number();
     }
     slices::put_value(estivolh::interpolate(chart, method, x, y), value)
 }
@@ -126,10 +124,10 @@ pub extern "C" fn estivolh_interpolate(
 pub extern "C" fn estivolh_charge(value: f64, charge: &mut [u64]) -> u64
     ensures { left result charge.new ≡ charge_called value charge.old }
 {
-    if charge.len() < 1 {
-        return 2;
+    if charge.is_empty() {
+        return Refusal::Slices.number();
     }
-    slices::put_charge(estivolh::charge(value), charge)
+    slices::put_number(estivolh::charge(value), charge)
 }
 
 // A fresh book of so many sections.
@@ -138,7 +136,7 @@ pub extern "C" fn estivolh_fresh(sections: u64, book: &mut [u64]) -> u64
     ensures { left result book.new ≡ fresh_called sections book.old }
 {
     if book.len() < BOOK_NUMBERS {
-        return 2;
+        return Refusal::Slices.number();
     }
     slices::put_returned(estivolh::fresh(sections), book)
 }
@@ -154,7 +152,7 @@ pub extern "C" fn estivolh_batch(
     ensures { batch_left result book.new answers.new ≡ batch_called book.old chart.now entries.now answers.old }
 {
     if book.len() < BOOK_NUMBERS {
-        return 2;
+        return Refusal::Slices.number();
     }
     let before = slices::read_book(book);
     let after = estivolh::batch(before, chart, entries, answers);
@@ -172,11 +170,11 @@ pub extern "C" fn estivolh_write_chart(
 ) -> u64
     ensures { text_left result text.new found.new ≡ write_called vertices.now edges.now faces.now text.old found.old }
 {
-    if found.len() < 1 {
-        return 2;
+    if found.is_empty() {
+        return Refusal::Slices.number();
     }
     let answer = estivolh::write_chart(vertices, edges, faces, text);
-    slices::put_length(answer, found)
+    slices::put_number(answer, found)
 }
 
 // A new bench test put into a chart: the new chart's text into `text`, and how long it is.
@@ -191,9 +189,9 @@ pub extern "C" fn estivolh_insert(
 ) -> u64
     ensures { InsertCalled chart.now x y value text.old found.old (text_left result text.new found.new) }
 {
-    if found.len() < 1 {
-        return 2;
+    if found.is_empty() {
+        return Refusal::Slices.number();
     }
     let answer = estivolh::insert(chart, x, y, value, text);
-    slices::put_length(answer, found)
+    slices::put_number(answer, found)
 }

@@ -18,6 +18,7 @@ impl FaceSet {
     }
 
     // Whether face f is in the set.
+    #[tactic(auto, unfolding(crate::specs::Set::has, crate::specs::Set::bit))]
     pub fn contains(self, f: usize) -> bool
         requires { f < 256 }
         ensures { result ≡ has self.words f }
@@ -31,8 +32,7 @@ impl FaceSet {
         requires { f < 256 }
         ensures { has result.words ≡ add f (has self.words) }
     {
-        let w = self.words[f / 64];
-        self.words[f / 64] = w | (1u64 << (f % 64));
+        self.words[f / 64] |= 1 << (f % 64);
         self
     }
 
@@ -40,8 +40,6 @@ impl FaceSet {
     pub fn count(self) -> usize
         ensures { result ≡ count_below 256 (has self.words) }
     {
-        let low = u64::count_ones(self.words[0]) + u64::count_ones(self.words[1]);
-        let high = u64::count_ones(self.words[2]) + u64::count_ones(self.words[3]);
-        (low + high) as usize
+        self.words.iter().map(|w| w.count_ones() as usize).sum()
     }
 }

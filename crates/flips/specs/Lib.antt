@@ -1,3 +1,3 @@
 pub mod Search
-pub mod Stack
+pub mod Ready
 pub mod Laws

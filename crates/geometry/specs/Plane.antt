@@ -14,6 +14,10 @@ grid_max = 10000
 unfoldable pub off_grid : Place → Bool
 off_grid p = outside (neg_ℤ (pos grid_max)) (pos grid_max) p.x || outside (neg_ℤ (pos grid_max)) (pos grid_max) p.y
 
+-- the place at these coordinates
+abbrev pub place_at : ℤ → ℤ → Place
+place_at x y = record { x = x; y = y }
+
 -- a place of the grid
 pub record OnGrid (p : Place) : Type 0 where
   pub x-in : Within grid_max p.x

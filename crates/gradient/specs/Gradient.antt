@@ -25,6 +25,10 @@ end_spot c h = spot_of c (c.origin (partner h))
 abbrev pub difference : Vector3 → Vector3 → Vector3
 difference p v = record { x = p.x -f v.x; y = p.y -f v.y; z = p.z -f v.z }
 
+-- and a sum by components
+abbrev pub plus : Vector3 → Vector3 → Vector3
+plus p n = record { x = p.x +f n.x; y = p.y +f n.y; z = p.z +f n.z }
+
 -- `normal`: d0 × d1
 unfoldable pub normal_of : Vector3 → Vector3 → Vector3 → Vector3
 normal_of v p0 p1 =
@@ -38,7 +42,7 @@ normal_of v p0 p1 =
 
 -- `final_normal` with one more normal, where its last component is above 0
 unfoldable pub add_normal : Vector3 → Vector3 → Vector3
-add_normal sum n = cond (lt f0 n.z) (record { x = sum.x +f n.x; y = sum.y +f n.y; z = sum.z +f n.z }) sum
+add_normal sum n = cond (lt f0 n.z) (plus sum n) sum
 
 -- one turn of the loop
 abbrev pub add_pair : Vector3 → Vector3 → Vector3 → Vector3 → Vector3

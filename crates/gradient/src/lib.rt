@@ -1,12 +1,19 @@
 // The gradient at a vertex (01, "Gradient and value"; `estimate_gradient`): normals of the triangles about it, summed, and one division each.
 #![tactic(auto)]
 
-ghost use Rattle.std.specs.Prelude.{◌≡◌, ◌*◌, ◌≤◌, ◌<◌, length};
-ghost use Rattle.chart.specs.Tables.{rows};
-ghost use Rattle.chart.specs.Chart.{chart_of, InRange};
+ghost use Rattle.std.specs.Prelude.{◌≡◌, ◌≤◌, ◌<◌, length};
+ghost use Rattle.chart.specs.Seen.{seen};
 ghost use Rattle.gradient.specs.Turn.{ccw};
-ghost use Rattle.gradient.specs.Gradient.{Valued, spot_of, end_spot, normal_of, add_normal, add_pair, final_normal, gradient_from, gradient_of};
+ghost use Rattle.gradient.specs.Gradient.{spot_of, end_spot, difference, plus, normal_of, add_normal, add_pair, final_normal, gradient_from, gradient_of};
 ghost use Rattle.gradient.specs.Estimated.{Estimated};
+
+mod table;
+mod valued;
+
+use chart::Chart;
+use std::ops::{Add, Sub};
+pub use table::Gradients;
+pub use valued::ValuedChart;
 
 // A place with a vertex's value as its height, or a normal.
 #[derive(Clone, Copy)]
@@ -22,75 +29,84 @@ pub struct Gradient {
     pub y: f64,
 }
 
+impl Add for Vector3 {
+    type Output = Vector3;
+
+    ghost add_gives = { λ a b r. r ≡ plus a b };
+
+    fn add(self, other: Vector3) -> Vector3 {
+        Vector3 {
+            x: self.x + other.x,
+            y: self.y + other.y,
+            z: self.z + other.z,
+        }
+    }
+}
+
+impl Sub for Vector3 {
+    type Output = Vector3;
+
+    ghost sub_gives = { λ a b r. r ≡ difference a b };
+
+    fn sub(self, other: Vector3) -> Vector3 {
+        Vector3 {
+            x: self.x - other.x,
+            y: self.y - other.y,
+            z: self.z - other.z,
+        }
+    }
+}
+
 // Vertex v with its value.
-fn spot_of(vertices: &[i64], edges: &[usize], faces: &[usize], v: usize) -> Vector3
-    requires fact_1 { InRange (chart_of vertices.now edges.now faces.now) }
-    requires fact_2 { Valued (chart_of vertices.now edges.now faces.now) }
-    requires fact_3 { v < rows vertices.now }
-    ensures { result ≡ spot_of (chart_of vertices.now edges.now faces.now) v }
+fn spot_of(valued: &ValuedChart, v: usize) -> Vector3
+    requires { v < (seen valued.now.chart).vertices }
+    ensures { result ≡ spot_of (seen valued.now.chart) v }
 {
-    let p = points::position(vertices, edges, faces, v);
+    let p = points::position(&valued.chart, v);
     Vector3 {
         x: p.x,
         y: p.y,
-        z: points::value(vertices, v),
+        z: valued.value(v),
     }
 }
 
 // The vertex where half-edge h ends, with its value.
-fn end_spot(vertices: &[i64], edges: &[usize], faces: &[usize], h: usize) -> Vector3
-    requires fact_1 { InRange (chart_of vertices.now edges.now faces.now) }
-    requires fact_2 { Valued (chart_of vertices.now edges.now faces.now) }
-    requires fact_3 { h < rows edges.now }
-    ensures { result ≡ end_spot (chart_of vertices.now edges.now faces.now) h }
+fn end_spot(valued: &ValuedChart, h: usize) -> Vector3
+    requires { h < (seen valued.now.chart).half_edges }
+    ensures { result ≡ end_spot (seen valued.now.chart) h }
 {
-    spot_of(
-        vertices,
-        edges,
-        faces,
-        chart::origin_of(edges, chart::partner_of(h)),
-    )
+    spot_of(valued, valued.chart.origin(valued.chart.partner(h)))
 }
 
 // The next half-edge counterclockwise about the vertex where h starts.
-fn ccw_of(vertices: &[i64], edges: &[usize], faces: &[usize], h: usize) -> usize
-    requires fact_1 { InRange (chart_of vertices.now edges.now faces.now) }
-    requires fact_2 { h < rows edges.now }
-    ensures { result ≡ ccw (chart_of vertices.now edges.now faces.now) h }
+fn ccw_of(chart: &Chart, h: usize) -> usize
+    requires { h < (seen chart.now).half_edges }
+    ensures value { result ≡ ccw (seen chart.now) h }
+    ensures below { result < (seen chart.now).half_edges }
 {
-    chart::partner_of(chart::prev_of(edges, h))
+    chart.partner(chart.prev(h))
 }
 
 // The normal of the triangle v, p0, p1, twice its size.
+#[tactic(auto, unfolding(crate::specs::Gradient::normal_of))]
 fn normal(v: Vector3, p0: Vector3, p1: Vector3) -> Vector3
     ensures { result ≡ normal_of v p0 p1 }
 {
-    let d0x = p0.x - v.x;
-    let d0y = p0.y - v.y;
-    let d0z = p0.z - v.z;
-    let d1x = p1.x - v.x;
-    let d1y = p1.y - v.y;
-    let d1z = p1.z - v.z;
+    let d0 = p0 - v;
+    let d1 = p1 - v;
     Vector3 {
-        x: d0y * d1z - d0z * d1y,
-        y: d0z * d1x - d0x * d1z,
-        z: d0x * d1y - d0y * d1x,
+        x: d0.y * d1.z - d0.z * d1.y,
+        y: d0.z * d1.x - d0.x * d1.z,
+        z: d0.x * d1.y - d0.y * d1.x,
     }
 }
 
 // One more normal: one that does not point up is left out.
+#[tactic(auto, unfolding(crate::specs::Gradient::add_normal))]
 fn add_normal(sum: Vector3, n: Vector3) -> Vector3
     ensures { result ≡ add_normal sum n }
 {
-    if n.z > 0.0 {
-        Vector3 {
-            x: sum.x + n.x,
-            y: sum.y + n.y,
-            z: sum.z + n.z,
-        }
-    } else {
-        sum
-    }
+    if n.z > 0.0 { sum + n } else { sum }
 }
 
 // The normal of one more pair of neighbours.
@@ -100,35 +116,36 @@ fn add_pair(v: Vector3, sum: Vector3, p0: Vector3, p1: Vector3) -> Vector3
     add_normal(sum, normal(v, p0, p1))
 }
 
-// The sum of the normals about v. The turn keeps the last end and closes with the first; on an accepted chart its bound is never met.
-fn final_normal(vertices: &[i64], edges: &[usize], faces: &[usize], v: usize) -> Vector3
-    requires fact_1 { InRange (chart_of vertices.now edges.now faces.now) }
-    requires fact_2 { Valued (chart_of vertices.now edges.now faces.now) }
-    requires fact_3 { v < rows vertices.now }
-    ensures { result ≡ final_normal (chart_of vertices.now edges.now faces.now) v }
+// The sum of the normals about v. The turn keeps the last end and closes with the first; on an accepted chart it is back before its steps run out.
+fn final_normal(valued: &ValuedChart, v: usize) -> Vector3
+    requires { v < (seen valued.now.chart).vertices }
+    ensures { result ≡ final_normal (seen valued.now.chart) v }
 {
-    let spot = spot_of(vertices, edges, faces, v);
-    let start = chart::out_of(vertices, v);
-    let first = end_spot(vertices, edges, faces, start);
+    let chart = valued.chart;
+    let spot = spot_of(valued, v);
+    let start = chart.out(v);
+    let first = end_spot(valued, start);
     let mut sum = Vector3 {
         x: 0.0,
         y: 0.0,
         z: 0.0,
     };
     let mut last = first;
-    let mut h = ccw_of(vertices, edges, faces, start);
-    let mut left = edges.len() / 4 - 1;
-    while h != start && 0 < left {
-        let p = end_spot(vertices, edges, faces, h);
+    let mut h = ccw_of(&chart, start);
+    for _ in 1..chart.half_edge_count() {
+        if h == start {
+            break;
+        }
+        let p = end_spot(valued, h);
         sum = add_pair(spot, sum, last, p);
         last = p;
-        h = ccw_of(vertices, edges, faces, h);
-        left -= 1;
+        h = ccw_of(&chart, h);
     }
     add_pair(spot, sum, last, first)
 }
 
 // The gradient of the plane with this normal: -x is the Rust's negation, by which a sum of 0 gives -0.
+#[tactic(auto, unfolding(crate::specs::Gradient::gradient_from))]
 fn gradient_from(n: Vector3) -> Gradient
     ensures { result ≡ gradient_from n }
 {
@@ -143,53 +160,26 @@ fn gradient_from(n: Vector3) -> Gradient
 }
 
 // The gradient at vertex v.
-pub fn estimate_gradient(vertices: &[i64], edges: &[usize], faces: &[usize], v: usize) -> Gradient
-    requires fact_1 { InRange (chart_of vertices.now edges.now faces.now) }
-    requires fact_2 { Valued (chart_of vertices.now edges.now faces.now) }
-    requires fact_3 { v < rows vertices.now }
-    ensures { result ≡ gradient_of (chart_of vertices.now edges.now faces.now) v }
+pub fn estimate_gradient(valued: &ValuedChart, v: usize) -> Gradient
+    requires { v < (seen valued.now.chart).vertices }
+    ensures { result ≡ gradient_of (seen valued.now.chart) v }
 {
-    gradient_from(final_normal(vertices, edges, faces, v))
+    gradient_from(final_normal(valued, v))
 }
 
-// Room for the gradients of the largest chart's 128 vertices.
-pub fn room() -> [f64; 256]
-    ensures { length result ≡ 256 }
+// Room for the gradients of the largest chart's vertices.
+pub fn room() -> [Gradient; 128]
+    ensures { length result ≡ 128 }
 {
-    [0.0; 256]
+    [Gradient { x: 0.0, y: 0.0 }; 128]
 }
 
 // The gradients of all vertices, into the first elements of a lent slice: for many loads on one chart.
-pub fn estimate_gradients(vertices: &[i64], edges: &[usize], faces: &[usize], gradients: &mut [f64])
-    requires fact_1 { InRange (chart_of vertices.now edges.now faces.now) }
-    requires fact_2 { Valued (chart_of vertices.now edges.now faces.now) }
-    requires fact_3 { 2 * rows vertices.now ≤ length gradients.old }
-    ensures { Estimated (chart_of vertices.now edges.now faces.now) gradients.new (rows vertices.now) }
+pub fn estimate_gradients(valued: &ValuedChart, gradients: &mut [Gradient])
+    requires { (seen valued.now.chart).vertices ≤ length gradients.old }
+    ensures { Estimated (seen valued.now.chart) gradients.new (seen valued.now.chart).vertices }
 {
-    let n = vertices.len() / 4;
-    let mut v = 0;
-    while v < n {
-        let g = estimate_gradient(vertices, edges, faces, v);
-        gradients[2 * v] = g.x;
-        gradients[2 * v + 1] = g.y;
-        v += 1;
-    }
-}
-
-// The gradient at vertex v, as it was estimated.
-pub fn estimated(
-    vertices: &[i64],
-    edges: &[usize],
-    faces: &[usize],
-    gradients: &[f64],
-    v: usize,
-) -> Gradient
-    requires fact_1 { Estimated (chart_of vertices.now edges.now faces.now) gradients.now (rows vertices.now) }
-    requires fact_2 { v < rows vertices.now }
-    ensures { result ≡ gradient_of (chart_of vertices.now edges.now faces.now) v }
-{
-    Gradient {
-        x: gradients[2 * v],
-        y: gradients[2 * v + 1],
+    for v in 0..valued.chart.vertex_count() {
+        gradients[v] = estimate_gradient(valued, v);
     }
 }

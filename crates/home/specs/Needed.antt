@@ -10,7 +10,7 @@ use Rattle.chart.specs.Chart.{Chart, InRange, corner₀, corner₁, corner₂}
 use Rattle.ranges.specs.Ranges.{not_below, bad_vertex, bad_half_edge, bad_face, out_of_range}
 use Rattle.links.specs.Links.{linked, unlinked, stray_out, stray_adjacent, links_broken}
 use Rattle.locate.specs.Location.{at_vertex, on_edge, in_face}
-use Rattle.nearby.specs.Needed.{Tables, chart, sheets, copies, Row, sheets-row, copies-row, lone_row, ranged, Seven, Eight, Nine, Ten}
+use Rattle.nearby.specs.Needed.{Tables, chart, sheets, copies, Row, Seven, Eight, Nine, Ten}
 use Rattle.home.specs.Located.{left_of_rim, InsideRim, Housed}
 
 -- 9: triangle A and a flat face below it, whose third corner (5, 0) is on the open edge between the other two

@@ -1,10 +1,10 @@
 -- What the call's arms come to: a refusal before 18, and the text of the new tables. Assumes nothing.
-use Rattle.std.specs.Prelude.{◌≡◌, refl, List, [], map, ℕ, ◌+◌, ◌*◌, ◌/◌, ◌<◌, ℤ, pos, length, take}
-use Rattle.std.proofs.Common.{sym, subst, ap, ◌∙◌, arith, length-take-le, get_or-take}
+use Rattle.std.specs.Prelude.{◌≡◌, refl, Ok, List, [], map, ℕ, ◌+◌, ◌*◌, ◌/◌, ◌<◌, ℤ, pos, length, take}
+use Rattle.std.proofs.Common.{sym, subst, ap, ◌∙◌, arith, get_or-take}
 use Rattle.std.proofs.lemmas.List.{length-map}
 use Rattle.geometry.specs.declared.Place.{Place}
 use Rattle.chart.specs.Tables.{rows}
-use Rattle.chart.specs.Chart.{chart_of}
+use Rattle.chart.specs.Chart.{Chart, chart_of, InRange}
 use Rattle.checks.specs.Checks.{Loaded}
 use Rattle.checks.specs.Checks.Loaded.{loaded, refused}
 use Rattle.reading.specs.Reading.{file_length, load_of, refusal_of, chart_in}
@@ -18,7 +18,9 @@ use Rattle.written.specs.WrittenBack.{text-read}
 use Rattle.rewire.specs.Tables.{Natural, out_cell}
 use Rattle.sites.specs.Insertion.{insert_refusal, Extended}
 use Rattle.sites.specs.Joined.{Joined}
-use Rattle.insertion.specs.Extend.{Extends}
+use Rattle.rewire.specs.declared.Tables.{Tables}
+use Rattle.rewire.specs.Front.{shown}
+use Rattle.insertion.specs.Outcome.{Extends}
 use Rattle.inserting.specs.Inserting.{Inserts}
 use Rattle.inserting.specs.Numbers.{Small, unsigned_back, edges-small, faces-small, numbers-pass}
 
@@ -55,43 +57,41 @@ refused-inserts l q z lent r e h =
 pub chart-inserts : (l : Loaded) (q : Place) (z : ℤ) (lent : List ℕ) (n : ℕ) → l ≡ refused n → (n ≡ 0 → ⊥) → Inserts l q z lent (record { answer = turned_down n; buffer = lent })
 chart-inserts l q z lent n w h = refused-inserts l q z lent n (sym (refused-first l n q z w)) h
 
-module _ (v e f : ℕ) (s : List ℕ) (q : Place) (z : ℤ) (lent : List ℕ) (r : ℕ) (us : List ℤ) (gs hs : List ℕ) (x : Extends v e f (load_of v e f s) q z r us gs hs) where
-  -- ---- the new tables
-  module _ (o : r ≡ 0) where
-    abbrev us' : List ℤ
-    us' = take (4 * (v + 1)) us
+-- ---- the new tables
+module _ (v e f : ℕ) (s : List ℕ) (q : Place) (z : ℤ) (lent : List ℕ) (t : Tables) (x : Extends (load_of v e f s) q z (Ok t)) where
+  -- the old chart was read
+  read : Read (load_of v e f s)
+  read = by (load_of v e f s) refl
+    where
+      by : (l : Loaded) → load_of v e f s ≡ l → Read (load_of v e f s)
+      by (loaded vs es fs) w = record { vs = vs; es = es; fs = fs; was = w }
+      by (refused n) w = absurd (load-refusal v e f s n w (sym (refused-first (load_of v e f s) n q z w) ∙ sym x.answered))
 
-    abbrev gs' : List ℕ
-    gs' = take (4 * (e + 6)) gs
+  pub new-range : InRange (shown t)
+  new-range = (x.joined read.vs read.es read.fs read.was).accepted.sound.range
 
-    abbrev hs' : List ℕ
-    hs' = take (f + 2) hs
-
+  -- in front
+  module _ (us' : List ℤ) (gs' hs' : List ℕ) (now : chart_of us' gs' hs' ≡ shown t) (front : us' ≡ take (4 * t.counts.vertices) t.vertices) (u-long : length us' ≡ 4 * t.counts.vertices) (g-long : length gs' ≡ 4 * t.counts.half_edges) where
     quarter : (n m : ℕ) → m ≡ 4 * n → m ≡ 4 * (m / 4)
     quarter n m e = omega arith
 
     u-rows : length us' ≡ 4 * rows us'
-    u-rows = quarter (v + 1) (length us') (length-take-le (4 * (v + 1)) us (x.fits o).v-fits)
+    u-rows = quarter t.counts.vertices (length us') u-long
 
     g-rows : length gs' ≡ 4 * rows gs'
-    g-rows = quarter (e + 6) (length gs') (length-take-le (4 * (e + 6)) gs (x.fits o).e-fits)
+    g-rows = quarter t.counts.half_edges (length gs') g-long
 
-    -- the old chart was read
-    read : Read (load_of v e f s)
-    read = by (load_of v e f s) refl
-      where
-        by : (l : Loaded) → load_of v e f s ≡ l → Read (load_of v e f s)
-        by (loaded vs es fs) w = record { vs = vs; es = es; fs = fs; was = w }
-        by (refused n) w = absurd (load-refusal v e f s n w (sym (refused-first (load_of v e f s) n q z w) ∙ sym x.answered ∙ o))
+    joins : (vs : List ℤ) (es fs : List ℕ) → load_of v e f s ≡ loaded vs es fs → Joined (chart_of vs es fs) q z (chart_of us' gs' hs')
+    joins vs es fs w = subst (Joined (chart_of vs es fs) q z) (sym now) (x.joined vs es fs w)
 
     joined : Joined (chart_of read.vs read.es read.fs) q z (chart_of us' gs' hs')
-    joined = x.joined o read.vs read.es read.fs read.was
+    joined = joins read.vs read.es read.fs read.was
 
     naturals : (u : ℕ) → u < rows us' → Natural (out_cell us' u)
     naturals u l =
-        let m : length us' ≡ 4 * (v + 1) = length-take-le (4 * (v + 1)) us (x.fits o).v-fits in
-        let k : u < v + 1 = omega arith in
-        subst Natural (sym (get_or-take (4 * (v + 1)) us (u * 4 + 3) (pos 0) (omega arith))) (x.naturals o u k)
+        subst (λ (w : List ℤ). Natural (out_cell w u)) (sym front)
+        (subst Natural (sym (get_or-take (4 * t.counts.vertices) t.vertices (u * 4 + 3) (pos 0) (omega arith)))
+        (x.naturals u (subst (λ (c : Chart). u < c.vertices) now l)))
 
     -- ---- what the writer asks
     pub small-edges : Small gs'
@@ -114,14 +114,14 @@ module _ (v e f : ℕ) (s : List ℕ) (q : Place) (z : ℤ) (lent : List ℕ) (r
 
     extends : (vs ws : List ℤ) (es fs ds bs : List ℕ) → load_of v e f s ≡ loaded vs es fs → chart_in T ≡ loaded ws ds bs → Extended (chart_of vs es fs) q z (chart_of ws ds bs)
     extends vs ws es fs ds bs w y =
-        subst (Extended (chart_of vs es fs) q z) (same-chart us' ws gs' ds hs' bs (sym T-read ∙ y)) (x.joined o vs es fs w).extended
+        subst (Extended (chart_of vs es fs) q z) (same-chart us' ws gs' ds hs' bs (sym T-read ∙ y)) (joins vs es fs w).extended
 
     G-rows : rows (map pos gs') ≡ rows gs'
     G-rows = ap (λ (k : ℕ). k / 4) (length-map gs' pos)
 
     long : (vs : List ℤ) (es fs : List ℕ) → load_of v e f s ≡ loaded vs es fs → length T ≡ file_length (rows vs + 1) (rows es + 6) (length fs + 2)
     long vs es fs w =
-        let j = (x.joined o vs es fs w).extended in
+        let j = (joins vs es fs w).extended in
         text-length us' (map pos gs') (map pos hs') u-rows (length-map gs' pos ∙ g-rows ∙ ap (λ (k : ℕ). 4 * k) (sym G-rows))
         ∙ (λ i. file_length (j.vertices-more i) ((G-rows ∙ j.half-edges-more) i) ((length-map hs' pos ∙ j.faces-more) i))
 
@@ -132,5 +132,5 @@ module _ (v e f : ℕ) (s : List ℕ) (q : Place) (z : ℤ) (lent : List ℕ) (r
           inserted = λ p. record { passes = ap refusal_of T-read; extends = extends; long = long };
           left =
               w ∙ written-by us' (map pos gs') (map pos hs') lent new-pass
-              ∙ ap (λ (n : ℕ). saved_by (room_refusal n T lent) T lent) (sym o ∙ x.answered);
+              ∙ ap (λ (n : ℕ). saved_by (room_refusal n T lent) T lent) x.answered;
         }

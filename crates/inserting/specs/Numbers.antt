@@ -1,8 +1,8 @@
 -- The tables of an accepted chart as the numbers of a file: none of 2, 4 and 6 to 11 meets them. Assumes nothing.
-use Rattle.std.specs.Prelude.{◌≡◌, refl, false, ℕ, zero, suc, ◌+◌, ◌*◌, ◌/◌, ◌%◌, ◌≤◌, ◌<◌, ℤ, negsuc, take}
+use Rattle.std.specs.Prelude.{◌≡◌, refl, false, ℕ, zero, suc, ◌+◌, ◌*◌, ◌/◌, ◌%◌, ◌≤◌, ◌<◌, ℤ, negsuc}
 use Rattle.std.proofs.Math.Path.{sym, subst, ap}
-use Rattle.std.proofs.Common.{◌∙◌, add-zero, lt_of_lt_of_le, arith, take_at, lt-ltb, le-ltb}
-use mathlib.Core.List.{List, [], ◌∷◌, ◌++◌, map}
+use Rattle.std.proofs.Common.{◌∙◌, add-zero, lt_of_lt_of_le, arith, lt-ltb, le-ltb}
+use mathlib.Core.List.{List, [], ◌∷◌, map}
 use Rattle.std.proofs.Math.IntN.{pos}
 use Rattle.std.proofs.Math.ListN.{length, get_or, length-map, get_or-map}
 use Rattle.whole.specs.Bound.{Within, outside}
@@ -40,12 +40,8 @@ module _ (vs : List ℤ) (es fs : List ℕ) (p : numbers_refusal vs (map pos es)
       let l = length-map es pos in
       omega (arith, c, r, l)
 
-  pub faces-room : length fs ≤ most_faces
-  faces-room = let c = (counts-in vs (map pos es) (map pos fs) p).f-most in let l = length-map fs pos in omega (arith, c, l)
-
--- what stands in front of an array once it is handed over
-pub handed : (t : List ℕ) (m rest : List ℤ) → m ≡ map pos t → take (length t) (m ++ rest) ≡ map pos t
-handed t m rest e = take_at m rest (length t) (ap length e ∙ length-map t pos) ∙ e
+  pub faces_room : length fs ≤ most_faces
+  faces_room = let c = (counts-in vs (map pos es) (map pos fs) p).f-most in let l = length-map fs pos in omega (arith, c, l)
 
 -- ---- what passes 6
 below-passes : (n k : ℕ) → k < n → not_below n (pos k) ≡ false

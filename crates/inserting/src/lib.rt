@@ -2,76 +2,54 @@
 #![tactic(auto)]
 
 ghost use Rattle.std.specs.Prelude.{map, ◌≡◌, pos, length};
-ghost use Rattle.ranges.specs.Passed.{Counted};
 ghost use Rattle.reading.specs.Reading.{load_of};
 ghost use Rattle.writing.specs.Writing.{saved_left, numbers_refusal, write_of};
 ghost use Rattle.inserting.specs.Inserting.{Inserts};
 ghost use Rattle.inserting.specs.Numbers.{Small};
 
+use chart::Chart;
 use geometry::Place;
-use writing::WrittenChart;
+use ranges::Counts;
+use refusal::Refusal;
 
 // A table of unsigned numbers as the file has them.
 fn hand_over(table: &[usize], numbers: &mut [i64])
-    requires fact_1 { length numbers.old ≡ length table.now }
-    requires fact_2 { Small table.now }
+    requires same_length { length numbers.old ≡ length table.now }
+    requires small { Small table.now }
     ensures { numbers.new ≡ map pos table.now }
 {
-    let mut i = 0;
-    while i < table.len() {
-        numbers[i] = table[i] as i64;
-        i += 1;
+    for (i, to) in numbers.iter_mut().enumerate() {
+        *to = table[i] as i64;
     }
 }
 
-// The text of a chart's tables that are known to pass: 18, or it is put.
-fn put_text(vertices: &[i64], edges: &[usize], faces: &[usize], text: &mut [u8]) -> WrittenChart
-    requires fact_1 { numbers_refusal vertices.now (map pos edges.now) (map pos faces.now) ≡ 0 }
-    requires fact_2 { Small edges.now }
-    requires fact_3 { Small faces.now }
-    ensures { saved_left result text.new ≡ write_of vertices.now (map pos edges.now) (map pos faces.now) text.old }
+// The text of a chart's tables that are known to pass, and its length; or 18.
+#[tactic(auto, using(crate::specs::Numbers::edges_room, crate::specs::Numbers::faces_room))]
+fn put_text(chart: &Chart, text: &mut [u8]) -> Result<u64, Refusal>
+    requires passes { numbers_refusal chart.now.vertices.now (map pos chart.now.edges.now) (map pos chart.now.faces.now) ≡ 0 }
+    requires small_edges { Small chart.now.edges.now }
+    requires small_faces { Small chart.now.faces.now }
+    ensures { saved_left result text.new ≡ write_of chart.now.vertices.now (map pos chart.now.edges.now) (map pos chart.now.faces.now) text.old }
 {
     let mut edgenumbers = reading::edge_room();
     let mut facenumbers = reading::face_room();
-    let b = edges.len();
-    let f = faces.len();
-    hand_over(edges, &mut edgenumbers[..b]);
-    hand_over(faces, &mut facenumbers[..f]);
-    writing::put_text(vertices, &edgenumbers[..b], &facenumbers[..f], text)
+    let b = chart.edges.len();
+    let f = chart.faces.len();
+    hand_over(chart.edges, &mut edgenumbers[..b]);
+    hand_over(chart.faces, &mut facenumbers[..f]);
+    writing::put_text(chart.vertices, &edgenumbers[..b], &facenumbers[..f], text)
 }
 
 // Into the body of a chart whose head has these counts.
 pub fn insert_in(
     chart: &[u8],
-    v: usize,
-    e: usize,
-    f: usize,
+    counts: Counts,
     q: Place,
     value: i64,
     text: &mut [u8],
-) -> WrittenChart
-    requires { Counted v e f }
-    ensures { Inserts (load_of v e f chart.now) q value text.old (saved_left result text.new) }
+) -> Result<u64, Refusal>
+    ensures { Inserts (load_of counts.vertices counts.half_edges counts.faces chart.now) q value text.old (saved_left result text.new) }
 {
-    let mut vertices = chart::vertex_room();
-    let mut edges = chart::edge_room();
-    let mut faces = chart::face_room();
-    let refusal = insertion::extend(
-        chart,
-        v,
-        e,
-        f,
-        q,
-        value,
-        &mut vertices,
-        &mut edges,
-        &mut faces,
-    );
-    if refusal != 0 {
-        return WrittenChart::Refused(refusal);
-    }
-    let a = 4 * (v + 1);
-    let b = 4 * (e + 6);
-    let g = f + 2;
-    put_text(&vertices[..a], &edges[..b], &faces[..g], text)
+    let tables = insertion::extend(chart, counts, q, value)?;
+    put_text(&tables.chart(), text)
 }

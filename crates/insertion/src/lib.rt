@@ -1,153 +1,75 @@
 // A new vertex put into a chart's tables: joined to the corners around it, then edges are flipped about it.
 #![tactic(auto)]
 
-ghost use Rattle.std.specs.Prelude.{◌≡◌, length};
+ghost use Rattle.std.specs.Prelude.{◌≡◌, ◌<◌, cond, IfOk};
+ghost use Rattle.geometry.specs.Grid.{at};
 ghost use Rattle.chart.specs.Chart.{chart_of};
-ghost use Rattle.accepted.specs.Accepted.{Accepted};
-ghost use Rattle.rewire.specs.Tables.{Natural, out_cell, KeepsOuts, NewOut};
-ghost use Rattle.rewire.specs.Grown.{Room, old_of};
-ghost use Rattle.sites.specs.Askable.{Askable};
-ghost use Rattle.sites.specs.Site.{FaceSite, EdgeSite};
-ghost use Rattle.sites.specs.Joined.{Joined};
-ghost use Rattle.insertion.specs.Outcome.{Outcome};
-ghost use Rattle.insertion.specs.Extend.{Roomy, front_of, Grew, Extends};
-ghost use Rattle.ranges.specs.Passed.{Counted};
+ghost use Rattle.refusal.specs.Number.{refusal_of};
+ghost use Rattle.checks.specs.Checks.Loaded.{loaded};
 ghost use Rattle.reading.specs.Reading.{load_of};
+ghost use Rattle.accepted.specs.Accepted.{Accepted};
+ghost use Rattle.locate.specs.Location.{location_of};
+ghost use Rattle.patches.specs.Wired.{Wired};
+ghost use Rattle.rewire.specs.Tables.{Natural, out_cell, KeepsOuts, NewOut};
+ghost use Rattle.rewire.specs.Front.{shown, Roomy};
+ghost use Rattle.sites.specs.Insertion.{no_site, insert_refusal};
+ghost use Rattle.sites.specs.Askable.{Askable};
+ghost use Rattle.sites.specs.Joined.{Joined};
+ghost use Rattle.insertion.specs.Outcome.{Stands, joined_at, NaturalOuts, Extends};
 
-use geometry::Place;
+use geometry::{GridPlace, Place};
+use ranges::Counts;
+use refusal::Refusal;
+use rewire::Tables;
 use sites::Site;
 
-// A new vertex into the face of half-edge e.
-fn insert_in_face(
-    vertices: &mut [i64],
-    edges: &mut [usize],
-    faces: &mut [usize],
-    n: usize,
-    h: usize,
-    f: usize,
-    e: usize,
-    q: Place,
-    value: i64,
-)
-    requires fact_1 { Room vertices.old edges.old faces.old n h f }
-    requires fact_2 { Accepted (old_of vertices.old edges.old faces.old n h f) }
-    requires fact_3 { Askable (old_of vertices.old edges.old faces.old n h f) q value }
-    requires fact_4 { FaceSite (old_of vertices.old edges.old faces.old n h f) q e }
-    ensures { (Joined (old_of vertices.old edges.old faces.old n h f) q value (chart_of vertices.new edges.new faces.new)) × (NewOut n vertices.old vertices.new) }
+// A new vertex joined to the corners about its site.
+fn join(tables: &mut Tables, site: Site, q: GridPlace, value: i64)
+    requires room { Roomy tables.old.counts }
+    requires wired { Wired (shown tables.old) }
+    requires stands { Stands (shown tables.old) site }
+    ensures joined { shown tables.new ≡ joined_at (shown tables.old) site (at q) value }
+    ensures outs { NewOut tables.old.counts.vertices tables.old.vertices tables.new.vertices }
 {
-    rewire::insert_into_triangle(vertices, edges, faces, n, h, f, e, q, value);
-    legal::legalize(vertices, edges, faces, n);
-}
-
-// A new vertex into the inner edge of half-edge e.
-fn insert_on_edge(
-    vertices: &mut [i64],
-    edges: &mut [usize],
-    faces: &mut [usize],
-    n: usize,
-    h: usize,
-    f: usize,
-    e: usize,
-    q: Place,
-    value: i64,
-)
-    requires fact_1 { Room vertices.old edges.old faces.old n h f }
-    requires fact_2 { Accepted (old_of vertices.old edges.old faces.old n h f) }
-    requires fact_3 { Askable (old_of vertices.old edges.old faces.old n h f) q value }
-    requires fact_4 { EdgeSite (old_of vertices.old edges.old faces.old n h f) q e }
-    ensures { (Joined (old_of vertices.old edges.old faces.old n h f) q value (chart_of vertices.new edges.new faces.new)) × (NewOut n vertices.old vertices.new) }
-{
-    rewire::split_edge(vertices, edges, faces, n, h, f, e, q, value);
-    legal::legalize(vertices, edges, faces, n);
-}
-
-// A new vertex at q into the tables, which hold a chart of n vertices, h half-edges and f faces with room behind; 0, or 26.
-pub fn insert_vertex(
-    vertices: &mut [i64],
-    edges: &mut [usize],
-    faces: &mut [usize],
-    n: usize,
-    h: usize,
-    f: usize,
-    q: Place,
-    value: i64,
-) -> u64
-    requires fact_1 { Room vertices.old edges.old faces.old n h f }
-    requires fact_2 { Accepted (old_of vertices.old edges.old faces.old n h f) }
-    requires fact_3 { Askable (old_of vertices.old edges.old faces.old n h f) q value }
-    ensures { (Outcome (old_of vertices.old edges.old faces.old n h f) q value result (chart_of vertices.new edges.new faces.new)) × (KeepsOuts vertices.old vertices.new) × (result ≡ 0 → Natural (out_cell vertices.new n)) }
-{
-    let a = 4 * n;
-    let b = 4 * h;
-    let site = sites::site_at(&vertices[..a], &edges[..b], &faces[..f], q);
     match site {
-        Site::Inside(e) => {
-            insert_in_face(vertices, edges, faces, n, h, f, e, q, value);
-            0
-        }
-        Site::Across(e) => {
-            insert_on_edge(vertices, edges, faces, n, h, f, e, q, value);
-            0
-        }
-        Site::Nowhere => 26,
+        Site::Inside(e) => tables.insert_into_triangle(e, q, value),
+        Site::Across(e) => tables.split_edge(e, q, value),
     }
 }
 
-// A new vertex at q into the tables of a chart that was read: they stand in front of arrays for the largest chart.
-fn grow(
-    vertices: &mut [i64],
-    edges: &mut [usize],
-    faces: &mut [usize],
-    v: usize,
-    e: usize,
-    f: usize,
-    q: Place,
-    value: i64,
-) -> u64
-    requires fact_1 { Roomy v e f (length vertices.old) (length edges.old) (length faces.old) }
-    requires fact_2 { Accepted (front_of v e f vertices.old edges.old faces.old) }
-    requires fact_3 { Askable (front_of v e f vertices.old edges.old faces.old) q value }
-    ensures { Grew v e f q value vertices.old edges.old faces.old result vertices.new edges.new faces.new }
+// A new vertex at q into the tables; 26 where it has no site.
+fn insert_vertex(tables: &mut Tables, q: GridPlace, value: i64) -> Result<(), Refusal>
+    requires accepted { Accepted (shown tables.old) }
+    requires askable { Askable (shown tables.old) (at q) value }
+    ensures refusal { refusal_of result ≡ cond (no_site (shown tables.old) (location_of (shown tables.old) (at q))) 26 0 }
+    ensures joined { IfOk result (λ u. Joined (shown tables.old) (at q) value (shown tables.new)) }
+    ensures outs { IfOk result (λ u. NewOut tables.old.counts.vertices tables.old.vertices tables.new.vertices) }
 {
-    let a = 4 * v + 4;
-    let b = 4 * e + 24;
-    let g = f + 2;
-    insert_vertex(
-        &mut vertices[..a],
-        &mut edges[..b],
-        &mut faces[..g],
-        v,
-        e,
-        f,
-        q,
-        value,
-    )
+    let n = tables.counts.vertices;
+    let site = sites::site_at(&tables.chart(), q)?;
+    join(tables, site, q, value);
+    legal::legalize(tables, n);
+    Ok(())
 }
 
-// The body of a chart whose head has these counts is read and checked, and a new vertex at q is put into it; 0, or the refusal 3, 5 to 11, 13, 25 or 26.
-// The new chart's tables stand in the first elements of the lent slices.
-pub fn extend(
-    text: &[u8],
-    v: usize,
-    e: usize,
-    f: usize,
-    q: Place,
-    value: i64,
-    vertices: &mut [i64],
-    edges: &mut [usize],
-    faces: &mut [usize],
-) -> u64
-    requires fact_1 { Counted v e f }
-    requires fact_2 { Roomy v e f (length vertices.old) (length edges.old) (length faces.old) }
-    ensures { Extends v e f (load_of v e f text.now) q value result vertices.new edges.new faces.new }
+// The body of a chart whose head has these counts is read and checked, and a new vertex at q is put into it; or the refusal 3, 5 to 11, 13, 25 or 26.
+pub fn extend(text: &[u8], counts: Counts, q: Place, value: i64) -> Result<Tables, Refusal>
+    ensures { Extends (load_of counts.vertices counts.half_edges counts.faces text.now) q value result }
 {
-    let refusal = reading::load(text, v, e, f, vertices, edges, faces);
-    if refusal != 0 {
-        return refusal;
-    }
-    let asked = sites::ask(q, value, v);
-    if asked != 0 {
-        return asked;
-    }
-    grow(vertices, edges, faces, v, e, f, q, value)
+    let mut tables = Tables {
+        vertices: chart::vertex_room(),
+        edges: chart::edge_room(),
+        faces: chart::face_room(),
+        counts,
+    };
+    reading::load(
+        text,
+        counts,
+        &mut tables.vertices,
+        &mut tables.edges,
+        &mut tables.faces,
+    )?;
+    let place = sites::ask(q, value, counts.vertices)?;
+    insert_vertex(&mut tables, place, value)?;
+    Ok(tables)
 }

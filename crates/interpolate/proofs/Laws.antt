@@ -1,43 +1,40 @@
--- One step of the two sums over lists, as the loops take it. Assumes nothing.
-use mathlib.Core.Path.{◌≡◌}
-use mathlib.Core.Bool.{true, false}
-use mathlib.Core.List.{List}
-use Prim.Native.Nat.{ℕ, ◌+◌, ◌≤◌, ◌<◌}
-use native.Mathlib.Numerals.{add-one}
-use lib.Ieee.{Float, nan, eq}
-use lib.ListN.{length, drop, get_or, drop_of_length-le}
-use lib.Seq.{drop-cons}
+-- The two sums over lists, as the loops take them. Assumes nothing.
+use Rattle.std.proofs.Common.{◌≡◌, refl, true, false, ◌⊎◌, inl, inr, List, [], ◌∷◌, ℕ, length}
+use Rattle.std.specs.Prelude.{Float}
+use Rattle.std.specs.Float.Ieee.{eq}
 use Rattle.geometry.specs.declared.Place.{Place}
 use Rattle.chart.specs.Chart.{Chart}
-use Rattle.points.specs.Floats.{f0, ◌+f◌, ◌*f◌, real_of}
+use Rattle.points.specs.Floats.{f0, real_of}
 use Rattle.interpolate.specs.declared.Blend.{Blend}
 use Rattle.interpolate.specs.Values.{sum_from, r2_of, zeta_of, blend_on, blended, blend_from}
 
-module _ (c : Chart) (os : List ℕ) (ws : List Float) (i : ℕ) where
-  -- ---- one more vertex of the weighted sum
-  pub sum-on : (t : Float) → i < length os → i < length ws → sum_from c t (drop i os) (drop i ws) ≡ sum_from c (t +f real_of (c.value (get_or os i 0)) *f get_or ws i nan) (drop (i + 1) os) (drop (i + 1) ws)
-  unfolding sum_from
-  sum-on t h k = rw (drop-cons os i 0 h, drop-cons ws i nan k, add-one i)
+-- one of two lists is at its end, as a walk over both says it
+abbrev pub Ended : {S T A B : Type 0} → S → T → List A → List B → Type 0
+Ended {S} {T} s t os ws = ((x : S) × ((length os ≡ 0) × (x ≡ s))) ⊎ ((x : T) × ((length ws ≡ 0) × (x ≡ t)))
 
-  -- no vertex is left
-  pub sum-end : (t : Float) → length os ≤ i → sum_from c t (drop i os) (drop i ws) ≡ t
+module _ (c : Chart) where
+  -- no vertex is left of the weighted sum
+  pub sum-end : {S T : Type 0} (a : S) (b : T) (t : Float) (os : List ℕ) (ws : List Float) → Ended a b os ws → sum_from c t os ws ≡ t
   unfolding sum_from
-  sum-end t h = rw (drop_of_length-le os h)
+  sum-end a b t [] ws e = refl
+  sum-end a b t (v ∷ os) [] e = refl
+  sum-end a b t (v ∷ os) (w ∷ ws) e = elim e [ inl h ↦ absurd (cc h.1.0) | inr h ↦ absurd (cc h.1.0) ]
 
   module _ (q : Place) (s : Blend) where
-    -- ---- the load is at a vertex
-    pub blend-at : i < length os → i < length ws → eq (r2_of c q (get_or os i 0)) f0 ≡ true → blend_from c q s (drop i os) (drop i ws) ≡ real_of (c.value (get_or os i 0))
+    -- the load is at a vertex
+    pub blend-at : (v : ℕ) (w : Float) (os : List ℕ) (ws : List Float) → eq (r2_of c q v) f0 ≡ true → blend_from c q s (v ∷ os) (w ∷ ws) ≡ real_of (c.value v)
     unfolding blend_from
-    blend-at h k e = rw (drop-cons os i 0 h, drop-cons ws i nan k, e)
+    blend-at v w os ws e = rw e
 
     -- one more vertex
-    pub blend_on_lem : i < length os → i < length ws → eq (r2_of c q (get_or os i 0)) f0 ≡ false
-        → blend_from c q s (drop i os) (drop i ws)
-        ≡ blend_from c q (blend_on s (real_of (c.value (get_or os i 0))) (r2_of c q (get_or os i 0)) (zeta_of c q (get_or os i 0)) (get_or ws i nan)) (drop (i + 1) os) (drop (i + 1) ws)
+    pub blend_next : (v : ℕ) (w : Float) (os : List ℕ) (ws : List Float) → eq (r2_of c q v) f0 ≡ false
+        → blend_from c q s (v ∷ os) (w ∷ ws) ≡ blend_from c q (blend_on s (real_of (c.value v)) (r2_of c q v) (zeta_of c q v) w) os ws
     unfolding blend_from
-    blend_on_lem h k e = rw (drop-cons os i 0 h, drop-cons ws i nan k, e, add-one i)
+    blend_next v w os ws e = rw e
 
     -- no vertex is left
-    pub blend-end : length os ≤ i → blend_from c q s (drop i os) (drop i ws) ≡ blended s
+    pub blend-end : {S T : Type 0} (a : S) (b : T) (os : List ℕ) (ws : List Float) → Ended a b os ws → blend_from c q s os ws ≡ blended s
     unfolding blend_from
-    blend-end h = rw (drop_of_length-le os h)
+    blend-end a b [] ws e = refl
+    blend-end a b (v ∷ os) [] e = refl
+    blend-end a b (v ∷ os) (w ∷ ws) e = elim e [ inl h ↦ absurd (cc h.1.0) | inr h ↦ absurd (cc h.1.0) ]

@@ -1,17 +1,14 @@
 -- Which edge is to be flipped, and what flips leave. Assumes nothing.
-use Rattle.std.specs.Prelude.{◌≡◌, Bool, true, false, not, List, length, ℕ, ◌-◌, ◌/◌, ◌≤◌, ◌<◌, eqb, ℤ, pos}
-use Rattle.std.proofs.Common.{sym, subst, ap, ◌∙◌, arith, eq-eqb, eqb-true, ne_eqb, le-ltb}
+use Rattle.std.specs.Prelude.{◌≡◌, refl, Option, None, Some, Bool, true, false, not, ℕ, ◌-◌, ◌<◌, eqb}
+use Rattle.std.proofs.Common.{sym, subst, ap, ◌∙◌, arith, eq-eqb, eqb-true, ne_eqb, ltb-true}
 use Rattle.std.proofs.lemmas.Bool.{false≢true, eqb-false, not-true}
-use Rattle.std.specs.Int.Signed.{lt_z}
-use Rattle.whole.specs.Bools.{and-true, is_false}
-use Rattle.whole.specs.First.{first, first_found, none-at}
+use Rattle.std.specs.Option.{MatchOption}
+use Rattle.whole.specs.Bools.{and-true, never}
+use Rattle.whole.specs.First.{first, first_found, found, some, none-at}
 use Rattle.signs.specs.Signs.{Pos, Low}
-use Rattle.geometry.specs.declared.Place.{Place}
 use Rattle.geometry.specs.Plane.{circle}
-use Rattle.chart.specs.Tables.{rows}
-use Rattle.chart.specs.Chart.{Chart, chart_of, partner, outer, from_of, to_of}
+use Rattle.chart.specs.Chart.{Chart, partner, outer, from_of, to_of}
 use Rattle.sound.specs.Sound.{Inner}
-use Rattle.rewire.specs.Tables.{KeepsOuts}
 use Rattle.patches.specs.Wired.{Wired, partner-below}
 use Rattle.patches.proofs.Flip as Fl
 use Rattle.patches.specs.Flip.{flipped}
@@ -20,7 +17,7 @@ use Rattle.signs.specs.Count.{count_most, count_less}
 use Rattle.stars.specs.Star as St
 use Rattle.stars.specs.Star.{Growing}
 use Rattle.stars.specs.End.{Settled}
-use Rattle.legal.specs.Legal.{wants_flip, Wanted, Reached, wired-range, degree, Legal, Turning}
+use Rattle.legal.specs.Legal.{wants_flip, Wanted, Reached, wired-range, degree, Legal}
 
 pub wanted : (c : Chart) (n h : ℕ) → wants_flip c n h ≡ true → Wanted c n h
 unfolding wants_flip
@@ -83,6 +80,27 @@ module _ (c : Chart) (n h : ℕ) (g : Growing c n) (l : h < c.half_edges) (t : W
           (λ e. St.b-old c h g' ih it j' (ap c.origin (sym e) ∙ q ∙ sym t.across))
           ∙ q
 
+-- ---- what a scan finds
+module _ (p : ℕ → Bool) (n : ℕ) where
+  found_by : (b : Bool) → some p n ≡ b → (o : Option ℕ) → found p n ≡ o → MatchOption o (some p n ≡ false) (λ i. (i < n) × (p i ≡ true))
+  found_by true e None f = never (cc)
+  found_by true e (Some i) f =
+      let q : first p n ≡ i = cc in
+      let l = ltb-true (first p n) n e in
+      (subst (λ (k : ℕ). k < n) q l, subst (λ (k : ℕ). p k ≡ true) q (first_found p n l))
+  found_by false e None f = e
+  found_by false e (Some i) f = never (cc)
+
+  found-says : (o : Option ℕ) → o ≡ found p n → MatchOption o (some p n ≡ false) (λ i. (i < n) × (p i ≡ true))
+  found-says o e = found_by (some p n) refl o (sym e)
+
+-- of a chart c that is seen as b
+pub found-one : (b c : Chart) (n h : ℕ) (o : Option ℕ) → b ≡ c → o ≡ found (wants_flip b n) b.half_edges → o ≡ Some h → (h < c.half_edges) × (wants_flip c n h ≡ true)
+found-one b c n h o q e s = let t = found-says (wants_flip c n) c.half_edges o (e ∙ ap (λ (x : Chart). found (wants_flip x n) x.half_edges) q) in rw s at t
+
+pub found-none : (b c : Chart) (n : ℕ) (o : Option ℕ) → b ≡ c → o ≡ found (wants_flip b n) b.half_edges → o ≡ None → some (wants_flip c n) c.half_edges ≡ false
+found-none b c n o q e s = let t = found-says (wants_flip c n) c.half_edges o (e ∙ ap (λ (x : Chart). found (wants_flip x n) x.half_edges) q) in rw s at t
+
 -- one turn of the loop
 pub flip-reached : (s c d : Chart) (n h : ℕ) → Reached s n c → h < c.half_edges → wants_flip c n h ≡ true → d ≡ flipped c h → Reached s n d
 flip-reached s c d n h r l e q =
@@ -104,52 +122,5 @@ flip-less s c d n h r l e q =
     let b = count_most (λ k. eqb ((flipped c h).origin k) n) c.half_edges in
     omega arith)
 
-pub ended : (s c : Chart) (n h : ℕ) → Reached s n c → h ≡ first (wants_flip c n) c.half_edges → c.half_edges ≤ h → Legal s n c
-ended s c n h r e l =
-    record { reached = r; settled = none-wanted c n (none-at (wants_flip c n) c.half_edges (le-ltb (first (wants_flip c n) c.half_edges) c.half_edges (subst (λ (k : ℕ). c.half_edges ≤ k) e l))) }
-
-pub found : (c : Chart) (n h : ℕ) → h ≡ first (wants_flip c n) c.half_edges → h < c.half_edges → wants_flip c n h ≡ true
-found c n h e l = subst (λ (k : ℕ). wants_flip c n k ≡ true) (sym e) (first_found (wants_flip c n) c.half_edges (subst (λ (k : ℕ). k < c.half_edges) e l))
-
--- ---- the tests in the code's order
-pub wants-outer : (c : Chart) (n h f : ℕ) → f ≡ c.face h → f ≡ 0 → false ≡ wants_flip c n h
-wants-outer c n h f p e = sym (is_false (wants_flip c n h) (λ t. (wanted c n h t).inner (sym p ∙ e)))
-
-pub wants-other : (c : Chart) (n h o p : ℕ) → p ≡ c.prev h → o ≡ c.origin p → (o ≡ n → ⊥) → false ≡ wants_flip c n h
-wants-other c n h o p pp po e = sym (is_false (wants_flip c n h) (λ t. e (po ∙ ap c.origin pp ∙ (wanted c n h t).across)))
-
-pub wants-rim : (c : Chart) (n h t f : ℕ) → t ≡ partner h → f ≡ c.face t → f ≡ 0 → false ≡ wants_flip c n h
-wants-rim c n h t f pt pf e = sym (is_false (wants_flip c n h) (λ w. (wanted c n h w).beyond (ap c.face (sym pt) ∙ sym pf ∙ e)))
-
-pub wants-last : (c : Chart) (n h t f g o p u : ℕ) (a b d q : Place) (r : Bool) → f ≡ c.face h → (f ≡ 0 → ⊥) → p ≡ c.prev h → o ≡ c.origin p → o ≡ n → t ≡ partner h → g ≡ c.face t → (g ≡ 0 → ⊥)
-    → b ≡ to_of c h → a ≡ from_of c h → u ≡ c.prev t → d ≡ c.place (c.origin u) → q ≡ c.place n → r ≡ lt_z (pos 0) (circle b a d q) → r ≡ wants_flip c n h
-unfolding wants_flip
-wants-last c n h t f g o p u a b d q r pf nf pp po on pt pg ng pb pa pu pd pq pr =
-    let x : d ≡ c.place (c.origin (c.prev (partner h))) = pd ∙ ap (λ (k : ℕ). c.place (c.origin k)) (pu ∙ ap c.prev pt) in
-    let y : lt_z (pos 0) (circle b a d q) ≡ lt_z (pos 0) (circle (to_of c h) (from_of c h) (c.place (c.origin (c.prev (partner h)))) (c.place n)) = λ i. lt_z (pos 0) (circle (pb i) (pa i) (x i) (pq i)) in
-    pr ∙ y
-    ∙ sym (simp (
-      ne_eqb (c.face h) 0 (λ z. nf (pf ∙ z)),
-      eq-eqb (c.origin (c.prev h)) n (ap c.origin (sym pp) ∙ sym po ∙ on),
-      ne_eqb (c.face (partner h)) 0 (λ z. ng (pg ∙ ap c.face pt ∙ z)),
-    ))
-
-module _ (vs₀ : List ℤ) (es₀ fs₀ : List ℕ) (vs : List ℤ) (es fs : List ℕ) (n h : ℕ) (t : Turning vs₀ es₀ fs₀ vs es fs n h) (l : h < rows es₀) where
-  pub turning-in : h < rows es
-  turning-in = subst (λ (k : ℕ). h < k / 4) (sym t.e-long) l
-
-  abbrev c : Chart
-  c = chart_of vs es fs
-
-  wants : wants_flip c n h ≡ true
-  wants = found c n h t.next turning-in
-
-  module _ (vs' : List ℤ) (es' fs' : List ℕ) (q : chart_of vs' es' fs' ≡ flipped c h) where
-    pub turned : Reached (chart_of vs₀ es₀ fs₀) n (chart_of vs' es' fs')
-    turned = flip-reached (chart_of vs₀ es₀ fs₀) c (chart_of vs' es' fs') n h t.reached turning-in wants q
-
-    pub turned-less : rows es' - degree (chart_of vs' es' fs') n < rows es - degree c n
-    turned-less = flip-less (chart_of vs₀ es₀ fs₀) c (chart_of vs' es' fs') n h t.reached turning-in wants q
-
-    pub turned_on : (h' : ℕ) → h' ≡ first (wants_flip (chart_of vs' es' fs') n) (rows es') → length vs' ≡ length vs → length es' ≡ length es → length fs' ≡ length fs → KeepsOuts vs vs' → Turning vs₀ es₀ fs₀ vs' es' fs' n h'
-    turned_on h' e a b d k = record { reached = turned; next = e; v-long = a ∙ t.v-long; e-long = b ∙ t.e-long; f-long = d ∙ t.f-long; outed = λ u o. k u (t.outed u o) }
+pub ended : (s c : Chart) (n : ℕ) → Reached s n c → some (wants_flip c n) c.half_edges ≡ false → Legal s n c
+ended s c n r e = record { reached = r; settled = none-wanted c n (none-at (wants_flip c n) c.half_edges e) }

@@ -1,13 +1,10 @@
 -- Which edge is to be flipped, and what flips leave. Assumes nothing.
-use Rattle.std.specs.Prelude.{◌≡◌, refl, Bool, not, ◌&&◌, List, length, ℕ, ◌<◌, eqb, ℤ, pos}
+use Rattle.std.specs.Prelude.{◌≡◌, refl, Bool, not, ◌&&◌, ℕ, ◌<◌, eqb, pos}
 use Rattle.std.proofs.Common.{arith}
 use Rattle.std.specs.Int.Signed.{lt_z}
-use Rattle.whole.specs.First.{first}
 use Rattle.signs.specs.Signs.{Pos}
 use Rattle.geometry.specs.Plane.{OnGrid, circle}
-use Rattle.chart.specs.Tables.{rows}
-use Rattle.chart.specs.Chart.{Chart, chart_of, partner, outer, from_of, to_of, InRange}
-use Rattle.rewire.specs.Tables.{KeepsOuts}
+use Rattle.chart.specs.Chart.{Chart, partner, outer, from_of, to_of, InRange}
 use Rattle.patches.specs.Wired.{Wired}
 use Rattle.signs.specs.Count.{count}
 use Rattle.stars.specs.Star.{Growing}
@@ -62,15 +59,6 @@ degree c n = count (λ h. eqb (c.origin h) n) c.half_edges
 pub record Legal (s : Chart) (n : ℕ) (c : Chart) : Type 0 where
   pub reached : Reached s n c
   pub settled : Settled c n
-
--- ---- the loop over tables
-pub record Turning (vs₀ : List ℤ) (es₀ fs₀ : List ℕ) (vs : List ℤ) (es fs : List ℕ) (n h : ℕ) : Type 0 where
-  pub reached : Reached (chart_of vs₀ es₀ fs₀) n (chart_of vs es fs)
-  pub next : h ≡ first (wants_flip (chart_of vs es fs) n) (rows es)
-  pub v-long : length vs ≡ length vs₀
-  pub e-long : length es ≡ length es₀
-  pub f-long : length fs ≡ length fs₀
-  pub outed : KeepsOuts vs₀ vs
 
 pub last-in : {c : Chart} {n : ℕ} → Growing c n → n < c.vertices
 last-in g = let e = g.size in omega arith

@@ -1,17 +1,18 @@
 -- 02, CR 2 and CR 11, of the batch's answers: what stands in the answer slice for an entry of any kind is below 2,000,000, or 2,000,000 plus 12, 13, 14, 16 or 17.
 -- Assumes nothing.
-use Rattle.std.specs.Prelude.{◌≡◌, refl, ◌⊎◌, Bool, true, false, cond, List, ℕ, zero, suc, ◌+◌, ◌*◌, ◌/◌, ◌<◌, ℤ, length, get_or}
+use Rattle.std.specs.Prelude.{◌≡◌, refl, ◌⊎◌, Bool, true, false, cond, List, ℕ, zero, suc, ◌+◌, ◌*◌, ◌/◌, ◌<◌, ℤ, length, get_or, Result, Ok}
 use Rattle.std.proofs.Common.{sym, subst, ap, ◌∙◌, inl, inr, arith}
 use Rattle.std.proofs.Math.ListN.{get_or-append}
 use Rattle.whole.specs.Among.{among}
 use Rattle.whole.specs.Bools.{never}
+use Rattle.refusal.specs.declared.Refusal.{Refusal}
 use Rattle.reading.specs.Reading.{chart_refusal_of}
 use Rattle.accepted.proofs.Bytes.{bytes-accepted}
 use Rattle.book.specs.declared.Book.{Book}
-use Rattle.book.specs.declared.Returned.{Returned}
+use Rattle.book.specs.Returned.{Returned, returned_of}
 use Rattle.book.specs.Books.{total_wear, count_of, bad_book}
-use Rattle.entries.specs.declared.Ruling.{Ruling}
-use Rattle.entries.specs.declared.Ruling.TheVariants.{Bend, Splice, Refused}
+use Rattle.entries.specs.Ruling.{Ruling}
+use Rattle.entries.specs.Ruling.Ruling.{Bend, Splice, Refused}
 use Rattle.entries.specs.Entry.{entry_width, entry_at, entries_from, entries_of}
 use Rattle.entries.specs.Ruling.{refused_entry, answer_of}
 use Rattle.accounts.specs.Batch.{book_change, book_verdict, answers_from, overlay, bad_slices, batch_refusal, Outcome, outcome, by_refusal, batch_of}
@@ -52,10 +53,11 @@ worked zero b chart es lent left r m z = (refl, ap (λ (o : Outcome). o.answers)
 worked (suc n) b chart es lent left r m z = let e : suc n ≡ 0 = sym (ap (λ (o : Outcome). o.refusal) m) ∙ z in let o : ⊥ = omega arith in absurd o
 
 -- of every batch that was made: `made` is the contract of `estivolh::batch`, word for word. Entry k stands at 5 k
-pub answers-only : (b : Book) (chart : List ℕ) (es : List ℤ) (lent : List ℕ) (r : Returned) (left : List ℕ) (made : outcome r left ≡ batch_of queries b chart es lent) → r.refusal ≡ 0
+pub answers-only : (b : Book) (chart : List ℕ) (es : List ℤ) (lent : List ℕ) (r : Result Book Refusal) (left : List ℕ) (made : outcome (returned_of r b) left ≡ batch_of queries b chart es lent) (after : Book) → r ≡ Ok after
     → (k : ℕ) → k < length es / entry_width → AcceptedOrOneOf (get_or left k 0)
-answers-only b chart es lent r left made z k l =
-    let w = worked (batch_refusal b chart (length es) (length lent)) b chart es lent left r made z in
+answers-only b chart es lent r left made after done k l =
+    let z : (returned_of r b).refusal ≡ 0 = ap (λ (a : Result Book Refusal). (returned_of a b).refusal) done in
+    let w = worked (batch_refusal b chart (length es) (length lent)) b chart es lent left (returned_of r b) made z in
     let a = bytes-accepted chart (pick (bad_book b) (bad_slices (length es) (length lent)) (chart_refusal_of chart) w.0) in
     let n = length es / entry_width in
     let given = answers_from queries chart b (entries_of es) in

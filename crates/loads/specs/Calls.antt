@@ -13,7 +13,8 @@ use Rattle.locate.specs.declared.Location.{Location}
 use Rattle.locate.specs.declared.Location.TheVariants.{OnVertex, OnEdge, OnFace, OutsideOfConvexHull}
 use Rattle.locate.specs.Location.{left_of_outer, location_of}
 use Rattle.home.specs.Located.{left_of_rim, InsideRim, outside-left, left-outside}
-use Rattle.weights.specs.Barycentric.{Weights as W, Weighted, weigh_two, weigh_three}
+use Rattle.weights.specs.declared.Weighted.{Weighted}
+use Rattle.weights.specs.Barycentric.{Weights as W, weigh_two, weigh_three}
 use Rattle.values.specs.Located.{place_refusal, barycentric_at}
 use Rattle.neighbors.specs.Neighbors.{neighbors_of}
 use Rattle.values.specs.Value.{Answer, barycentric_value, natural_value, value_at, value_from, located_value, value_on, value_found, value-located}

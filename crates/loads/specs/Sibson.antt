@@ -1,17 +1,18 @@
 -- 02, CR 11, of the public calls: what `natural_neighbor_edges` and `natural_neighbor_weights` answer for a load inside a face or on an inner edge of an accepted
 -- chart is its whole neighbourhood. Assumes nothing.
-use Rattle.std.specs.Prelude.{◌≡◌, Bool, true, false, cond, ◌||◌, List, ◌++◌, map, ℕ, zero, suc, ltb, ℤ, Float, length, drop}
+use Rattle.std.specs.Prelude.{◌≡◌, Bool, true, false, cond, ◌||◌, List, ◌++◌, map, ℕ, zero, suc, ltb, ℤ, Float, length, drop, Result, Ok, Err}
 use Rattle.std.proofs.Math.Path.{refl}
 use Rattle.std.proofs.Common.{sym, ap, ◌∙◌}
 use Rattle.std.proofs.lemmas.List.{length-map}
 use Rattle.whole.specs.Bools.{never}
+use Rattle.refusal.specs.declared.Refusal.{Refusal}
 use Rattle.geometry.specs.declared.Place.{Place}
 use Rattle.geometry.specs.Plane.{off_grid}
 use Rattle.chart.specs.Chart.{Chart, chart_of}
 use Rattle.checks.specs.Checks.{Loaded}
 use Rattle.checks.specs.Checks.Loaded.{loaded}
-use Rattle.reading.specs.declared.Head.{Head}
-use Rattle.reading.specs.declared.Head.TheVariants as H
+use Rattle.reading.specs.Reading.{Head}
+use Rattle.reading.specs.Reading.{Head as H}
 use Rattle.reading.specs.Reading.{head_of, load_of, chart_in}
 use Rattle.reading.specs.Laws.{chart-body}
 use Rattle.accepted.proofs.Bytes.{chart-accepted}
@@ -24,26 +25,25 @@ use Rattle.neighbourhood.proofs.Turns as T
 use Rattle.neighbourhood.specs.Turns.{Unbroken}
 use Rattle.natural.specs.Natural.{settled}
 use Rattle.values.specs.Located.{place_refusal}
-use Rattle.query.specs.declared.NaturalNeighbors.{NaturalNeighbors}
-use Rattle.query.specs.declared.NaturalNeighbors.TheVariants.{Listed, Refused}
+use Rattle.query.specs.declared.Listed.{Listed}
 use Rattle.query.specs.Natural.{Tally, neighbors_say, Edges, edges_refused, edges_left, edges_at, edges_from, edges_on, edges_in, edges_after, natural_edges_of, Shares, shares_refused, shares_left, shares_at, shares_from, shares_on, shares_in, shares_after, natural_shares_of}
 use Rattle.query.specs.Natural.Tally.{listed, turned_down}
 
 -- of the answer r to a load at q
-pub record Sibson (c : Chart) (q : Place) (r : NaturalNeighbors) : Type 0 where
+pub record Sibson (c : Chart) (q : Place) (r : Result Listed Refusal) : Type 0 where
   -- the edges listed, and how many faces were opened: the answer says how many of both
   pub edges : List ℕ
   pub opened : ℕ
-  pub answer : r ≡ Listed (length edges) opened
+  pub answer : r ≡ Ok (record { count = length edges; opened = opened })
   -- all that the request says of them, and of the search that found them
   pub whole : Neighbourhood c q (search_of c q (location_of c q)) (record { edges = edges; opened = opened })
   -- and no turn about one of the neighbours meets its bound
   pub unbroken : Unbroken c (record { edges = edges; opened = opened })
 
 -- ---- an answer that lists is that of the location
-listed_of : (r : NaturalNeighbors) (n o : ℕ) → neighbors_say r ≡ listed n o → r ≡ Listed n o
-listed_of (Listed m p) n o e = let a : m ≡ n = cc in let b : p ≡ o = cc in rw (a, b)
-listed_of (Refused k) n o e = never (cc)
+listed_of : (r : Result Listed Refusal) (n o : ℕ) → neighbors_say r ≡ listed n o → r ≡ Ok (record { count = n; opened = o })
+listed_of (Ok l) n o e = let a : l.count ≡ n = cc in let b : l.opened ≡ o = cc in rw (sym a, sym b) refl
+listed_of (Err k) n o e = never (cc)
 
 -- of two, not the one that is refused
 other : {X : Type 0} (say : X → Tally) (b : Bool) (x y : X) (k n o : ℕ) → say x ≡ turned_down k → say (cond b x y) ≡ listed n o → cond b x y ≡ y
@@ -102,7 +102,7 @@ module _ (s : List ℕ) (vs : List ℤ) (es fs : List ℕ) (read : chart_in s �
         d ∙ r ∙ shares-here (ap (λ (x : Shares). x.answer) (sym (d ∙ r)) ∙ w)
 
 -- ---- the neighbourhood of an accepted file's load
-abbrev all_listed : (s : List ℕ) (vs : List ℤ) (es fs : List ℕ) → chart_in s ≡ loaded vs es fs → (q : Place) → Amid (chart_of vs es fs) q → (r : NaturalNeighbors)
+abbrev all_listed : (s : List ℕ) (vs : List ℤ) (es fs : List ℕ) → chart_in s ≡ loaded vs es fs → (q : Place) → Amid (chart_of vs es fs) q → (r : Result Listed Refusal)
     → let n = neighbors_of (chart_of vs es fs) q (location_of (chart_of vs es fs) q) in neighbors_say r ≡ listed (length n.edges) n.opened → Sibson (chart_of vs es fs) q r
 all_listed s vs es fs read q amid r e =
     let c = chart_of vs es fs in
@@ -117,24 +117,24 @@ all_listed s vs es fs read q amid r e =
     }
 
 -- of every call that was made and lists: `made` is the contract of the call, word for word. The edges stand in front of the slice
-pub sibson-edges : (s : List ℕ) (x y : ℤ) (lent : List ℕ) (r : NaturalNeighbors) (left : List ℕ) (made : edges_left r left ≡ natural_edges_of s x y lent) (n o : ℕ) → r ≡ Listed n o
+pub sibson-edges : (s : List ℕ) (x y : ℤ) (lent : List ℕ) (r : Result Listed Refusal) (left : List ℕ) (made : edges_left r left ≡ natural_edges_of s x y lent) (l : Listed) → r ≡ Ok l
     → (vs : List ℤ) (es fs : List ℕ) → chart_in s ≡ loaded vs es fs → let q : Place = record { x = x; y = y } in Amid (chart_of vs es fs) q
     → (t : Sibson (chart_of vs es fs) q r) × (left ≡ t.edges ++ drop (length t.edges) lent)
-sibson-edges s x y lent r left made n o lists vs es fs read amid =
+sibson-edges s x y lent r left made l lists vs es fs read amid =
     let q : Place = record { x = x; y = y } in
-    let d : (edges_left r left).answer ≡ listed n o = ap neighbors_say lists in
-    let at = made ∙ edges_by s vs es fs read q n o lent (head_of s) refl (sym (ap (λ (e : Edges). e.answer) made) ∙ d) in
+    let d : (edges_left r left).answer ≡ listed l.count l.opened = ap neighbors_say lists in
+    let at = made ∙ edges_by s vs es fs read q l.count l.opened lent (head_of s) refl (sym (ap (λ (e : Edges). e.answer) made) ∙ d) in
     (all_listed s vs es fs read q amid r (ap (λ (e : Edges). e.answer) at), ap (λ (e : Edges). e.slice) at)
 
 -- each weight's vertex is where one of these edges starts
-pub sibson-weights : (s : List ℕ) (x y : ℤ) (os : List ℕ) (ws : List Float) (r : NaturalNeighbors) (owners : List ℕ) (weights : List Float) (made : shares_left r owners weights ≡ natural_shares_of s x y os ws) (n o : ℕ) → r ≡ Listed n o
+pub sibson-weights : (s : List ℕ) (x y : ℤ) (os : List ℕ) (ws : List Float) (r : Result Listed Refusal) (owners : List ℕ) (weights : List Float) (made : shares_left r owners weights ≡ natural_shares_of s x y os ws) (l : Listed) → r ≡ Ok l
     → (vs : List ℤ) (es fs : List ℕ) → chart_in s ≡ loaded vs es fs → let q : Place = record { x = x; y = y } in Amid (chart_of vs es fs) q
     → (t : Sibson (chart_of vs es fs) q r) × (owners ≡ map (chart_of vs es fs).origin t.edges ++ drop (length t.edges) os)
 unfolding settled
-sibson-weights s x y os ws r owners weights made n o lists vs es fs read amid =
+sibson-weights s x y os ws r owners weights made l lists vs es fs read amid =
     let q : Place = record { x = x; y = y } in
     let c = chart_of vs es fs in
     let es' : List ℕ = (neighbors_of c q (location_of c q)).edges in
-    let d : (shares_left r owners weights).answer ≡ listed n o = ap neighbors_say lists in
-    let at = made ∙ shares-by s vs es fs read q n o os ws (head_of s) refl (sym (ap (λ (e : Shares). e.answer) made) ∙ d) in
+    let d : (shares_left r owners weights).answer ≡ listed l.count l.opened = ap neighbors_say lists in
+    let at = made ∙ shares-by s vs es fs read q l.count l.opened os ws (head_of s) refl (sym (ap (λ (e : Shares). e.answer) made) ∙ d) in
     (all_listed s vs es fs read q amid r (ap (λ (e : Shares). e.answer) at), ap (λ (e : Shares). e.owners) at ∙ ap (λ (k : ℕ). map c.origin es' ++ drop k os) (length-map es' c.origin))

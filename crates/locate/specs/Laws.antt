@@ -1,12 +1,12 @@
 -- The law of the location: an answer's number is in range and passes its test. Assumes nothing.
 use Rattle.std.specs.Prelude.{◌≡◌, refl, Bool, true, false, ℕ, ◌<◌}
-use Rattle.std.proofs.Common.{sym, subst, ltb-true}
+use Rattle.std.proofs.Common.{ltb-true}
 use Rattle.whole.specs.First.{first, some, first_found}
 use Rattle.geometry.specs.declared.Place.{Place}
 use Rattle.chart.specs.Chart.{Chart}
 use Rattle.locate.specs.declared.Location.{Location}
 use Rattle.locate.specs.declared.Location.TheVariants.{OnVertex, OnEdge, OnFace, OutsideOfConvexHull}
-use Rattle.locate.specs.Location.{at_vertex, on_even_edge, in_face, lowest, location_of}
+use Rattle.locate.specs.Location.{at_vertex, on_even_edge, in_face, lowest}
 
 -- ---- what an answer says of its number
 abbrev pub Holds : Chart → Place → Location → Type 0

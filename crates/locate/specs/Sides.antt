@@ -10,11 +10,11 @@ use Rattle.chart.specs.Chart.{Chart, from_of, to_of, partner-even, partner-odd}
 use Rattle.locate.specs.Location.{left_of}
 
 -- of each of the first n half-edges, whether q is strictly left of it
-pub record Sides (c : Chart) (q : Place) (left : List Bool) (n : ℕ) : Type 0 where
+pub record SidesOf (c : Chart) (q : Place) (left : List Bool) (n : ℕ) : Type 0 where
   pub room : n ≤ length left
   pub said : (h : ℕ) → h < n → get_or left h false ≡ left_of c q h
 
-pub sides-none : (c : Chart) (q : Place) (left : List Bool) → Sides c q left 0
+pub sides-none : (c : Chart) (q : Place) (left : List Bool) → SidesOf c q left 0
 sides-none c q left = record { room = omega arith; said = λ h m. absurd (not-suc-le-zero m) }
 
 -- the sides of an edge's two half-edges: q is strictly left of the odd one where it is strictly right of the even one
@@ -26,7 +26,7 @@ odd-left c q k =
     ∙ ap (λ (j : ℕ). lt_z (side (from_of c (2 * k)) (from_of c j) q) (pos 0)) (sym (partner-even k))
 
 -- one edge more
-module _ (c : Chart) (q : Place) (left : List Bool) (k : ℕ) (s : Sides c q left (2 * k)) (l : 2 * k + 1 < length left) (a b : Bool) (ea : a ≡ left_of c q (2 * k)) (eb : b ≡ left_of c q (2 * k + 1)) where
+module _ (c : Chart) (q : Place) (left : List Bool) (k : ℕ) (s : SidesOf c q left (2 * k)) (l : 2 * k + 1 < length left) (a b : Bool) (ea : a ≡ left_of c q (2 * k)) (eb : b ≡ left_of c q (2 * k + 1)) where
   abbrev one : List Bool
   one = set left (2 * k) a
 
@@ -43,7 +43,7 @@ module _ (c : Chart) (q : Place) (left : List Bool) (k : ℕ) (s : Sides c q lef
       below_more _ _ (λ h m. get_or-set_other one (2 * k + 1) h b false (λ e. omega arith) ∙ first_said h m)
       (get_or-set_same one (2 * k + 1) b false (omega (arith, length-set left (2 * k) a)) ∙ eb)
 
-  pub sides-more : Sides c q new (2 * (k + 1))
+  pub sides-more : SidesOf c q new (2 * (k + 1))
   sides-more =
       record {
         room = omega (arith, length-set left (2 * k) a, length-set one (2 * k + 1) b);

@@ -1,6 +1,6 @@
 -- What callers need of the definitions of Log. Assumes nothing.
-use Rattle.std.specs.Prelude.{ℕ, ◌*◌, ◌/◌, ◌%◌, ◌≤◌, List, ◌++◌, Bool, true, false, not, cond, ◌≡◌, refl, eqb, ltb, ℤ, length, take, drop}
-use Rattle.std.proofs.Common.{ap, sym, ◌∙◌, arith, eqb-true, ltb-false, length-append, take_all, take_at}
+use Rattle.std.specs.Prelude.{ℕ, ◌*◌, ◌/◌, ◌%◌, ◌≤◌, List, ◌++◌, Bool, true, false, not, cond, ◌≡◌, refl, eqb, ltb, ℤ, length, take, drop, Ok, Err}
+use Rattle.std.proofs.Common.{ap, sym, arith, eqb-true, ltb-false, length-append, take_all, take_at}
 use Rattle.std.proofs.lemmas.Bool.{not-false}
 use Rattle.tables.specs.Table.{Cells, table_of}
 use Rattle.tables.specs.Table.Cells.{cells, bad}
@@ -8,7 +8,8 @@ use Rattle.tables.specs.Size.{table-length}
 use Rattle.entries.specs.Entry.{entry_width}
 use Rattle.log_text.specs.Log.{entry_bytes, entries_max, log_max, Log, log_fields, log_of, whole_log, LogOutcome, said_log, log_left}
 use Rattle.log_text.specs.Log.Log.{entries, refused}
-use Rattle.log_text.specs.declared.LogRead.{LogRead}
+use Rattle.refusal.specs.declared.Refusal.{Refusal}
+use Rattle.refusal.specs.Number.{number, number-positive}
 use Rattle.log_text.specs.Laws.{Held, Entered}
 
 kept_by : (log : List ℕ) (k : ℕ) → log_max ≤ k → (a b : Bool) → not (eqb (length log % entry_bytes) 0) ≡ a → ltb entries_max (length log / entry_bytes) ≡ b
@@ -43,27 +44,27 @@ held : (size : ℕ) (bytes : List ℕ) → Held (log_of size bytes)
 unfolding log_of
 held size bytes = held_by size bytes (not (eqb (size % entry_bytes) 0)) _ refl
 
-entered_by : (r : LogRead) (left lent : List ℤ) (g : Log) → Held g → said_log r left ≡ log_left g lent → r.refusal ≡ 0 → Entered r left g
-entered_by r left lent (entries l) h e z =
-    let n : r.entries ≡ length l / entry_width = ap (λ (o : LogOutcome). o.count) e in
+entered_by : (n : ℕ) (left lent : List ℤ) (g : Log) → Held g → said_log (Ok n) left ≡ log_left g lent → Entered n left g
+entered_by n left lent (entries l) h e =
+    let m : n ≡ length l / entry_width = ap (λ (o : LogOutcome). o.count) e in
     let f : left ≡ l ++ drop (length l) lent = ap (λ (o : LogOutcome). o.numbers) e in
-    let k : length l ≡ entry_width * r.entries = omega arith in
+    let k : length l ≡ entry_width * n = omega arith in
     record {
-      numbers = ap entries (sym (rw f (take_at l (drop (length l) lent) (entry_width * r.entries) k)));
+      numbers = ap entries (sym (rw f (take_at l (drop (length l) lent) (entry_width * n) k)));
       few = omega arith;
       room = rw f (simp length-append (omega arith));
     }
-entered_by r left lent (refused k) h e z = absurd (h (sym (ap (λ (o : LogOutcome). o.refusal) e) ∙ z))
+entered_by n left lent (refused k) h e = absurd (h (sym (ap (λ (o : LogOutcome). o.refusal) e)))
 
-pub entered : (size : ℕ) (bytes : List ℕ) (r : LogRead) (left lent : List ℤ) → said_log r left ≡ log_left (log_of size bytes) lent → r.refusal ≡ 0
-    → Entered r left (log_of size bytes)
-entered size bytes r left lent e z = entered_by r left lent (log_of size bytes) (held size bytes) e z
+-- the log is not refused
+pub entered : (size : ℕ) (bytes : List ℕ) (n : ℕ) (left lent : List ℤ) → said_log (Ok n) left ≡ log_left (log_of size bytes) lent → Entered n left (log_of size bytes)
+entered size bytes n left lent e = entered_by n left lent (log_of size bytes) (held size bytes) e
 
-turned_down : (r : LogRead) (left lent : List ℤ) (g : Log) → said_log r left ≡ log_left g lent → (r.refusal ≡ 0 → ⊥) → g ≡ refused r.refusal
-turned_down r left lent (entries l) e z = absurd (z (ap (λ (o : LogOutcome). o.refusal) e))
-turned_down r left lent (refused k) e z = ap refused (sym (ap (λ (o : LogOutcome). o.refusal) e))
+turned_down : (r : Refusal) (left lent : List ℤ) (g : Log) → said_log (Err r) left ≡ log_left g lent → g ≡ refused (number r)
+turned_down r left lent (entries l) e = let p = number-positive r in let z : number r ≡ 0 = ap (λ (o : LogOutcome). o.refusal) e in absurd (omega arith)
+turned_down r left lent (refused k) e = ap refused (sym (ap (λ (o : LogOutcome). o.refusal) e))
 
--- the log is refused: the reader's number is its refusal
-pub read-refused : (size : ℕ) (bytes : List ℕ) (r : LogRead) (left lent : List ℤ) → said_log r left ≡ log_left (log_of size bytes) lent → (r.refusal ≡ 0 → ⊥)
-    → log_of size bytes ≡ refused r.refusal
-read-refused size bytes r left lent e z = turned_down r left lent (log_of size bytes) e z
+-- the log is refused: the reader's refusal is its
+pub read-refused : (size : ℕ) (bytes : List ℕ) (r : Refusal) (left lent : List ℤ) → said_log (Err r) left ≡ log_left (log_of size bytes) lent
+    → log_of size bytes ≡ refused (number r)
+read-refused size bytes r left lent e = turned_down r left lent (log_of size bytes) e

@@ -1,33 +1,23 @@
--- Laws of specs/Log.antt, and of the copy that fills the lent slice.
-use Prim.Native.Nat.{ℕ, zero, suc, ◌+◌, ◌*◌, ◌/◌, ◌%◌, ◌≤◌, ◌<◌}
+-- Laws of specs/Log.antt.
+use Prim.Native.Nat.{ℕ, zero, suc, ◌*◌, ◌/◌, ◌%◌, ◌≤◌, ◌<◌}
 use mathlib.Core.List.{List, [], ◌∷◌, ◌++◌}
 use mathlib.Core.Bool.{Bool, true, false}
-use mathlib.Core.Path.{◌≡◌, refl, ap, sym, ◌∙◌}
+use mathlib.Core.Path.{◌≡◌, refl, ap, ◌∙◌}
 use native.Mathlib.Omega.{arith}
 use native.Mathlib.Nat.{mul-suc}
-use native.Mathlib.Numerals.{add-one}
 use borrow.Author.Tests.{ltb-true, ltb-false, lt-ltb, le-ltb, eq-eqb, ne_eqb}
 use lib.Dec.{ltb}
 use lib.IntN.{ℤ}
-use lib.ListN.{length, take, drop, get_or, set, length-drop}
-use lib.Seq.{drop-cons, take-suc, set_at, append_snoc, length-take-le}
+use lib.ListN.{length, take, drop, length-drop}
 use Rattle.text.specs.Field.{field_width, field_of}
 use Rattle.tables.specs.Table.{Cells, given, join, cell_of, line_of, line_bytes, table_of}
 use Rattle.tables.specs.Table.Cells.{cells, bad}
 use Rattle.entries.specs.Entry.{entry_width}
 use Rattle.log_text.specs.Log.{entry_bytes, entries_max, Log, log_fields, log_of, said_log, log_left}
 use Rattle.log_text.specs.Log.Log.{entries, refused}
-use Rattle.log_text.specs.declared.LogRead.{LogRead}
-
--- One number more is copied.
-pub copy_step : (s d : List ℤ) (i : ℕ) (z : ℤ) → i < length s → length s ≤ length d
-    → set (take i s ++ drop i d) i (get_or s i z) ≡ take (i + 1) s ++ drop (i + 1) d
-copy_step s d i z h l =
-    ap (λ (r : List ℤ). set (take i s ++ r) i (get_or s i z)) (drop-cons d i z (omega arith))
-    ∙ set_at (take i s) (get_or d i z) (drop (suc i) d) (get_or s i z) i (length-take-le i s (omega arith))
-    ∙ sym (append_snoc (take i s) (get_or s i z) (drop (suc i) d))
-    ∙ ap (λ (r : List ℤ). r ++ drop (suc i) d) (sym (take-suc s i z h))
-    ∙ rw (add-one i) refl
+use Rattle.std.specs.Prelude.{Ok, Err}
+use Rattle.refusal.specs.declared.Refusal.{Refusal}
+use Rattle.refusal.specs.Number.{number}
 
 -- ---- bytes that are missing
 
@@ -79,10 +69,10 @@ pub fields-malformed : (c : Cells) (r : Bool) (l : List ℤ) → c ≡ given r l
 fields-malformed c r l e t = rw (e, t) refl
 
 -- What a refused log leaves.
-pub left-refused : (r : LogRead) (k : ℕ) (g : Log) (lent : List ℤ) → g ≡ refused k → r.refusal ≡ k → r.entries ≡ 0 → said_log r lent ≡ log_left g lent
-left-refused r k g lent e p q = rw (e, p, q) refl
+pub left-refused : (r : Refusal) (g : Log) (lent : List ℤ) → g ≡ refused (number r) → said_log (Err r) lent ≡ log_left g lent
+left-refused r g lent e = rw e refl
 
 -- What a log of n entries leaves.
-pub left-entries : (r : LogRead) (n : ℕ) (g : Log) (l lent : List ℤ) → g ≡ entries l → r.refusal ≡ 0 → r.entries ≡ n → length l ≡ entry_width * n
-    → said_log r (l ++ drop (length l) lent) ≡ log_left g lent
-left-entries r n g l lent e p q h = let d : length l / entry_width ≡ n = omega arith in rw (e, p, q, d) refl
+pub left-entries : (n : ℕ) (g : Log) (l lent left : List ℤ) → g ≡ entries l → length l ≡ entry_width * n → left ≡ l ++ drop (length l) lent
+    → said_log (Ok n) left ≡ log_left g lent
+left-entries n g l lent left e h p = let d : length l / entry_width ≡ n = omega arith in rw (e, d, p) refl

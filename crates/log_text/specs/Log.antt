@@ -1,9 +1,10 @@
 -- 01, "Program": the log, what it holds, and the first refusal that meets it.
-use Rattle.std.specs.Prelude.{ℕ, ◌*◌, ◌/◌, ◌%◌, List, ◌++◌, not, cond, eqb, ltb, ℤ, length, drop}
+use Rattle.std.specs.Prelude.{ℕ, ◌*◌, ◌/◌, ◌%◌, List, ◌++◌, not, cond, eqb, ltb, ℤ, length, drop, Result, Ok, Err}
 use Rattle.tables.specs.Table.{Cells, line_bytes, table_of}
 use Rattle.tables.specs.Table.Cells.{cells, bad}
 use Rattle.entries.specs.Entry.{entry_width}
-use Rattle.log_text.specs.declared.LogRead.{LogRead}
+use Rattle.refusal.specs.declared.Refusal.{Refusal}
+use Rattle.refusal.specs.Number.{number}
 
 -- 01 "Program": "per entry five fields and LF, 41 bytes"
 abbrev pub entry_bytes : ℕ
@@ -45,8 +46,9 @@ pub record LogOutcome : Type 0 where
   pub numbers : List ℤ
 
 -- the same, of what a call returned and what stands in the slice as it returns
-abbrev pub said_log : LogRead → List ℤ → LogOutcome
-said_log r left = record { refusal = r.refusal; count = r.entries; numbers = left }
+abbrev pub said_log : Result ℕ Refusal → List ℤ → LogOutcome
+said_log (Ok n) left = record { refusal = 0; count = n; numbers = left }
+said_log (Err r) left = record { refusal = number r; count = 0; numbers = left }
 
 -- a refusal leaves the lent slice as it was; else its first elements are the entries' numbers
 abbrev pub log_left : Log → List ℤ → LogOutcome

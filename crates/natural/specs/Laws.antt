@@ -1,6 +1,6 @@
 -- Laws of the definitions, as the loops and calls use them. Assumes nothing.
-use Rattle.std.specs.Prelude.{◌≡◌, List, [], ◌∷◌, ◌++◌, map, ℕ, ◌+◌, ◌≤◌, ◌<◌, length, take, drop, get_or, Float}
-use Rattle.std.proofs.Common.{add-one, drop_of_length-le, length-take-le}
+use Rattle.std.specs.Prelude.{◌≡◌, List, [], ◌∷◌, ◌++◌, map, ℕ, ◌+◌, ◌≤◌, ◌<◌, length, drop, get_or, Float}
+use Rattle.std.proofs.Common.{add-one, drop_of_length-le}
 use Rattle.std.proofs.lemmas.List.{length-map}
 use Rattle.std.proofs.Math.Seq.{drop-cons}
 use Rattle.chart.specs.Chart.{Chart}
@@ -23,8 +23,7 @@ module _ (c : Chart) (q : Point2) (list : List ℕ) (i edge : ℕ) (last : Point
   shares-end h = rw (drop_of_length-le list h)
 
 -- ---- what a call settles: the vertices and weights
-pub settled-whole : (xs : List Float) (s : List Float) (o : ℕ → ℕ) (list owners : List ℕ) (weights : List Float)
-    → take (length list) xs ≡ s → length list ≤ length xs
-    → outcome (map o list ++ drop (length list) owners) (take (length list) xs ++ drop (length list) weights) ≡ settled (map o list) s owners weights
+pub settled-whole : (s : List Float) (o : ℕ → ℕ) (list owners : List ℕ) (weights : List Float) → length s ≡ length list
+    → outcome (map o list ++ drop (length list) owners) (s ++ drop (length list) weights) ≡ settled (map o list) s owners weights
 unfolding settled
-settled-whole xs s o list owners weights e h = rw (← e, length-map list o, length-take-le (length list) xs h)
+settled-whole s o list owners weights e = rw (e, length-map list o)

@@ -27,7 +27,7 @@ cell_shares c q list = shares_from c q list (last_of list) (cell_corner c q (las
 abbrev pub two_shares : Chart → Point2 → List ℕ → List Float
 two_shares c q list =
     let w = two_point_interpolation (point_of (from_of c (get_or list 0 0))) (point_of (from_of c (get_or list 1 0))) q in
-    w.w0 ∷ w.w1 ∷ []
+    w.0 ∷ w.1 ∷ []
 
 -- a weight for each listed edge, by the length of the list: none, one (the load is on a vertex), two (on a hull edge), more
 unfoldable pub shares_of : Chart → Place → List ℕ → List Float

@@ -1,2 +1,1 @@
-pub mod Reverse
 pub mod Ends

@@ -1,9 +1,7 @@
--- What the answers say: the count is the list's length, the list stands in front of the slice; and the answers where
--- nothing is searched. Assumes nothing.
-use Rattle.std.specs.Prelude.{◌≡◌, refl, Bool, true, false, cond, List, [], ◌∷◌, ℕ, length, take, drop}
+-- The answers where nothing is searched, and what an answer's own search is. Assumes nothing.
+use Rattle.std.specs.Prelude.{◌≡◌, refl, Bool, true, false, cond, [], ◌∷◌, ℕ}
 use Rattle.std.proofs.Common.{sym, ◌∙◌}
 use Rattle.std.proofs.Math.Path.{ap}
-use Rattle.std.proofs.Math.Seq.{take-append_seam}
 use Rattle.geometry.specs.declared.Place.{Place}
 use Rattle.chart.specs.Chart.{Chart, partner}
 use Rattle.locate.specs.declared.Location.{Location}
@@ -11,24 +9,7 @@ use Rattle.locate.specs.declared.Location.TheVariants.{OnVertex, OnEdge, OnFace,
 use Rattle.faceset.specs.Set.{none}
 use Rattle.faceset.specs.Laws.{count_none}
 use Rattle.flips.specs.Search.{found, opened_count}
-use Rattle.neighbors.specs.declared.Counts.{Counts}
-use Rattle.neighbors.specs.Neighbors.{Neighbors, Outcome, finished, edge_search, face_neighbors, inner_edge_neighbors, edge_neighbors, part_of_convex_hull, search_of, neighbors_of, outcome, written}
-
-module _ (n : Neighbors) (lent : List ℕ) (r : Counts) (out : List ℕ) (e : outcome r out ≡ written n lent) where
-  -- the answer's count is the list's length
-  pub answer-count : r.count ≡ length n.edges
-  unfolding written
-  answer-count = ap (λ (o : Outcome). o.answer.count) e
-
-  -- and its other number the opened faces
-  pub answer-opened : r.opened ≡ n.opened
-  unfolding written
-  answer-opened = ap (λ (o : Outcome). o.answer.opened) e
-
-  -- so many elements of the slice are the list
-  pub answer-edges : take r.count out ≡ n.edges
-  unfolding written
-  answer-edges = rw (answer-count, ap (λ (o : Outcome). o.slice) e) (take-append_seam n.edges (drop (length n.edges) lent))
+use Rattle.neighbors.specs.Neighbors.{Neighbors, finished, edge_search, face_neighbors, inner_edge_neighbors, edge_neighbors, part_of_convex_hull, search_of, neighbors_of}
 
 -- 01's fourth 'mistake seen elsewhere': the hull-edge pair comes in the order edge, partner, and no face is opened
 pub hull-pair : (c : Chart) (q : Place) (h : ℕ) → part_of_convex_hull c h ≡ true → neighbors_of c q (OnEdge h) ≡ record { edges = h ∷ partner h ∷ []; opened = 0 }

@@ -1,11 +1,10 @@
 -- 01, "Weights": the edges of the natural neighbours of a load at a known place, `get_natural_neighbor_edges` of the Rust, and how many faces were opened.
-use Rattle.std.specs.Prelude.{Bool, cond, ◌||◌, List, [], ◌∷◌, ◌++◌, reverse, ℕ, length, drop}
+use Rattle.std.specs.Prelude.{Bool, cond, ◌||◌, List, [], ◌∷◌, reverse, ℕ}
 use Rattle.faceset.specs.Set.{none, add}
 use Rattle.geometry.specs.declared.Place.{Place}
 use Rattle.chart.specs.Chart.{Chart, partner, outer}
 use Rattle.locate.specs.declared.Location.{Location}
 use Rattle.locate.specs.declared.Location.TheVariants.{OnVertex, OnEdge, OnFace, OutsideOfConvexHull}
-use Rattle.neighbors.specs.declared.Counts.{Counts}
 use Rattle.flips.specs.Search.{Found, found, inspect_all, opened_count}
 
 -- the edges in the Rust's order, and how many faces were opened
@@ -71,20 +70,6 @@ neighbors_of c q (OnEdge h) = edge_neighbors c q h
 neighbors_of c q (OnVertex v) = vertex_neighbors c v
 neighbors_of c q (OutsideOfConvexHull h) = record { edges = []; opened = 0 }
 
--- a call's answer: how many edges, how many opened faces
-abbrev pub counts : ℕ → ℕ → Counts
-counts n o = record { count = n; opened = o }
-
--- what a call leaves: its answer, and the lent slice
-pub record Outcome : Type 0 where
-  pub answer : Counts
-  pub slice : List ℕ
-
--- for the contracts alone
-abbrev pub outcome : Counts → List ℕ → Outcome
-outcome r s = record { answer = r; slice = s }
-
--- the edges in front, the rest of the slice as it was
-unfoldable pub written : Neighbors → List ℕ → Outcome
-written n lent =
-    record { answer = counts (length n.edges) n.opened; slice = n.edges ++ drop (length n.edges) lent }
+-- what a call lists, and how many faces it says were opened
+abbrev pub listed : List ℕ → ℕ → Neighbors
+listed edges opened = record { edges = edges; opened = opened }

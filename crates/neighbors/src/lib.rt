@@ -1,219 +1,114 @@
 // The edges of the natural neighbours of a load, by the kind of its location (01, "Weights"; `get_natural_neighbor_edges`).
 #![tactic(auto)]
 
-ghost use Rattle.std.specs.Prelude.{◌≡◌, [], ◌∷◌, ◌++◌, reverse, ◌<◌, ◌≤◌, length, take, drop};
-ghost use Rattle.faceset.specs.Set.{has, count_below};
-ghost use Rattle.geometry.specs.Plane.{OnGrid};
-ghost use Rattle.chart.specs.Limits.{most_half_edges};
-ghost use Rattle.chart.specs.Tables.{rows};
-ghost use Rattle.chart.specs.Chart.{chart_of, InRange};
+ghost use Rattle.std.specs.Prelude.{◌≡◌, ◌<◌, ◌≤◌};
+ghost use Rattle.geometry.specs.Grid.{at};
+ghost use Rattle.chart.specs.Limits.{most_faces};
+ghost use Rattle.chart.specs.Seen.{seen};
 ghost use Rattle.locate.specs.Laws.{Holds};
-ghost use Rattle.flips.specs.Stack.{Roomy, Stacked};
-ghost use Rattle.neighbors.specs.Neighbors.{face_neighbors, inner_edge_neighbors, hull_edge_neighbors, edge_neighbors, vertex_neighbors, part_of_convex_hull, neighbors_of, outcome, written, counts};
+ghost use Rattle.neighbors.specs.Neighbors.{listed, face_neighbors, inner_edge_neighbors, hull_edge_neighbors, edge_neighbors, vertex_neighbors, part_of_convex_hull, neighbors_of};
 
+use chart::Chart;
 use faceset::FaceSet;
-use flips::Search;
-use geometry::Place;
+pub use flips::HalfEdges;
+use geometry::GridPlace;
 use locate::Location;
 
-// How many edges were listed, and how many faces opened.
-#[derive(Clone, Copy)]
-pub struct Counts {
-    pub count: usize,
-    pub opened: usize,
-}
-
-// Reverses the first n elements in place.
-fn reverse_first(out: &mut [usize], n: usize)
-    requires { n ≤ length out.old }
-    ensures { out.new ≡ reverse (take n out.old) ++ drop n out.old }
+// In face f: its three half-edges are searched from, and it is opened.
+pub fn face_neighbors(chart: &Chart, q: GridPlace, f: usize, out: &mut HalfEdges) -> usize
+    requires below { f < (seen chart.now).faces }
+    requires few { (seen chart.now).faces ≤ most_faces }
+    ensures { listed out.new.items result ≡ face_neighbors (seen chart.now) (at q) f }
 {
-    let mut i: usize = 0;
-    let mut j = n;
-    while i + 1 < j {
-        j -= 1;
-        let x = out[i];
-        let y = out[j];
-        out[i] = y;
-        out[j] = x;
-        i += 1;
-    }
-}
-
-// The end of a search: the edges in the other order, and the counts.
-fn finish(search: Search, out: &mut [usize]) -> Counts
-    requires { search.listed ≤ length out.old }
-    ensures value { result ≡ counts search.listed (count_below 256 (has search.opened.words)) }
-    ensures out_after { out.new ≡ reverse (take search.listed out.old) ++ drop search.listed out.old }
-{
-    let count = search.listed;
-    let opened = search.opened;
-    reverse_first(out, count);
-    Counts {
-        count,
-        opened: opened.count(),
-    }
-}
-
-// A stack of two half-edges, a on top, with room for a whole search.
-fn stack_two(a: usize, b: usize) -> [u16; 756]
-    requires fact_1 { a < most_half_edges }
-    requires fact_2 { b < most_half_edges }
-    ensures { Stacked result 2 (a ∷ b ∷ []) }
-{
-    let mut waiting = [0u16; 756];
-    waiting[0] = flips::narrow(b);
-    waiting[1] = flips::narrow(a);
-    waiting
-}
-
-// A stack of three.
-fn stack_three(a: usize, b: usize, c: usize) -> [u16; 756]
-    requires fact_1 { a < most_half_edges }
-    requires fact_2 { b < most_half_edges }
-    requires fact_3 { c < most_half_edges }
-    ensures { Stacked result 3 (a ∷ b ∷ c ∷ []) }
-{
-    let mut waiting = stack_two(b, c);
-    waiting[2] = flips::narrow(a);
-    waiting
-}
-
-// In face f.
-pub fn face_neighbors(
-    vertices: &[i64],
-    edges: &[usize],
-    faces: &[usize],
-    q: Place,
-    f: usize,
-    out: &mut [usize],
-) -> Counts
-    requires in_range_1 { InRange (chart_of vertices.now edges.now faces.now) }
-    requires in_range_2 { OnGrid q }
-    requires in_range_3 { f < length faces.now }
-    requires roomy { Roomy (chart_of vertices.now edges.now faces.now) (length out.old) }
-    ensures { outcome result out.new ≡ written (face_neighbors (chart_of vertices.now edges.now faces.now) q f) out.old }
-{
-    let h = chart::adjacent_of(faces, f);
-    let a = flips::behind_next(vertices, edges, faces, h);
-    let b = chart::partner_of(h);
-    let c = flips::behind_prev(vertices, edges, faces, h);
-    let mut waiting = stack_three(a, b, c);
+    out.clear();
+    let h = chart.adjacent(f);
+    let mut waiting = HalfEdges::new();
+    waiting.push(flips::behind_prev(chart, h));
+    waiting.push(chart.partner(h));
+    waiting.push(flips::behind_next(chart, h));
     let opened = FaceSet::empty().insert(f);
-    let search = flips::inspect_flips(vertices, edges, faces, q, opened, &mut waiting, 3, out);
-    finish(search, out)
+    let found = flips::inspect_flips(chart, q, opened, &mut waiting, out);
+    out.reverse();
+    found.count()
 }
 
-// On the inner edge of half-edge h.
-pub fn inner_edge_neighbors(
-    vertices: &[i64],
-    edges: &[usize],
-    faces: &[usize],
-    q: Place,
-    h: usize,
-    out: &mut [usize],
-) -> Counts
-    requires in_range_1 { InRange (chart_of vertices.now edges.now faces.now) }
-    requires in_range_2 { OnGrid q }
-    requires in_range_3 { h < rows edges.now }
-    requires roomy { Roomy (chart_of vertices.now edges.now faces.now) (length out.old) }
-    ensures { outcome result out.new ≡ written (inner_edge_neighbors (chart_of vertices.now edges.now faces.now) q h) out.old }
+// On the inner edge of half-edge h: it and its partner are searched from.
+pub fn inner_edge_neighbors(chart: &Chart, q: GridPlace, h: usize, out: &mut HalfEdges) -> usize
+    requires below { h < (seen chart.now).half_edges }
+    requires few { (seen chart.now).faces ≤ most_faces }
+    ensures { listed out.new.items result ≡ inner_edge_neighbors (seen chart.now) (at q) h }
 {
-    let mut waiting = stack_two(h, chart::partner_of(h));
-    let opened = FaceSet::empty();
-    let search = flips::inspect_flips(vertices, edges, faces, q, opened, &mut waiting, 2, out);
-    finish(search, out)
+    out.clear();
+    let mut waiting = HalfEdges::new();
+    waiting.push(chart.partner(h));
+    waiting.push(h);
+    let found = flips::inspect_flips(chart, q, FaceSet::empty(), &mut waiting, out);
+    out.reverse();
+    found.count()
 }
 
 // On the hull edge of half-edge h: the pair, which the Rust does not reverse.
-pub fn hull_edge_neighbors(h: usize, out: &mut [usize]) -> Counts
-    requires fact_1 { h < most_half_edges }
-    requires fact_2 { 2 ≤ length out.old }
-    ensures { outcome result out.new ≡ written (hull_edge_neighbors h) out.old }
+pub fn hull_edge_neighbors(chart: &Chart, h: usize, out: &mut HalfEdges) -> usize
+    requires { h < (seen chart.now).half_edges }
+    ensures { listed out.new.items result ≡ hull_edge_neighbors h }
 {
-    let partner = chart::partner_of(h);
-    out[0] = h;
-    out[1] = partner;
-    Counts {
-        count: 2,
-        opened: 0,
-    }
+    let partner = chart.partner(h);
+    out.clear();
+    out.push(h);
+    out.push(partner);
+    0
 }
 
 // At vertex v: its out half-edge.
-pub fn vertex_neighbors(
-    vertices: &[i64],
-    edges: &[usize],
-    faces: &[usize],
-    v: usize,
-    out: &mut [usize],
-) -> Counts
-    requires fact_1 { v < rows vertices.now }
-    requires fact_2 { 1 ≤ length out.old }
-    ensures { outcome result out.new ≡ written (vertex_neighbors (chart_of vertices.now edges.now faces.now) v) out.old }
+pub fn vertex_neighbors(chart: &Chart, v: usize, out: &mut HalfEdges) -> usize
+    requires { v < (seen chart.now).vertices }
+    ensures { listed out.new.items result ≡ vertex_neighbors (seen chart.now) v }
 {
-    out[0] = chart::out_of(vertices, v);
-    Counts {
-        count: 1,
-        opened: 0,
-    }
+    out.clear();
+    out.push(chart.out(v));
+    0
 }
 
 // Whether half-edge h or its partner is an outer one.
-pub fn is_part_of_convex_hull(vertices: &[i64], edges: &[usize], faces: &[usize], h: usize) -> bool
-    requires fact_1 { InRange (chart_of vertices.now edges.now faces.now) }
-    requires fact_2 { h < rows edges.now }
-    ensures { result ≡ part_of_convex_hull (chart_of vertices.now edges.now faces.now) h }
+pub fn is_part_of_convex_hull(chart: &Chart, h: usize) -> bool
+    requires { h < (seen chart.now).half_edges }
+    ensures { result ≡ part_of_convex_hull (seen chart.now) h }
 {
-    if chart::face_of(edges, h) == 0 {
-        return true;
-    }
-    chart::face_of(edges, chart::partner_of(h)) == 0
+    chart.face(h) == 0 || chart.face(chart.partner(h)) == 0
 }
 
 // On the edge of half-edge h.
-pub fn edge_neighbors(
-    vertices: &[i64],
-    edges: &[usize],
-    faces: &[usize],
-    q: Place,
-    h: usize,
-    out: &mut [usize],
-) -> Counts
-    requires in_range_1 { InRange (chart_of vertices.now edges.now faces.now) }
-    requires in_range_2 { OnGrid q }
-    requires in_range_3 { h < rows edges.now }
-    requires roomy { Roomy (chart_of vertices.now edges.now faces.now) (length out.old) }
-    ensures { outcome result out.new ≡ written (edge_neighbors (chart_of vertices.now edges.now faces.now) q h) out.old }
+#[tactic(auto, unfolding(crate::specs::Neighbors::edge_neighbors))]
+pub fn edge_neighbors(chart: &Chart, q: GridPlace, h: usize, out: &mut HalfEdges) -> usize
+    requires below { h < (seen chart.now).half_edges }
+    requires few { (seen chart.now).faces ≤ most_faces }
+    ensures { listed out.new.items result ≡ edge_neighbors (seen chart.now) (at q) h }
 {
-    if is_part_of_convex_hull(vertices, edges, faces, h) {
-        return hull_edge_neighbors(h, out);
+    if is_part_of_convex_hull(chart, h) {
+        return hull_edge_neighbors(chart, h, out);
     }
-    inner_edge_neighbors(vertices, edges, faces, q, h, out)
+    inner_edge_neighbors(chart, q, h, out)
 }
 
-// The edges of the natural neighbours of a load q that is located: they are written into the first elements of `out`.
+// The edges of the natural neighbours of a load q that is located, in `out`, and how many faces were opened.
+#[tactic(auto, unfolding(crate::specs::Neighbors::neighbors_of))]
 pub fn get_natural_neighbor_edges(
-    vertices: &[i64],
-    edges: &[usize],
-    faces: &[usize],
-    q: Place,
+    chart: &Chart,
+    q: GridPlace,
     location: Location,
-    out: &mut [usize],
-) -> Counts
-    requires in_range_1 { InRange (chart_of vertices.now edges.now faces.now) }
-    requires in_range_2 { OnGrid q }
-    requires holds { Holds (chart_of vertices.now edges.now faces.now) q location }
-    requires roomy { Roomy (chart_of vertices.now edges.now faces.now) (length out.old) }
-    ensures { outcome result out.new ≡ written (neighbors_of (chart_of vertices.now edges.now faces.now) q location) out.old }
+    out: &mut HalfEdges,
+) -> usize
+    requires holds { Holds (seen chart.now) (at q) location }
+    requires few { (seen chart.now).faces ≤ most_faces }
+    ensures { listed out.new.items result ≡ neighbors_of (seen chart.now) (at q) location }
 {
     match location {
-        Location::OnVertex(v) => vertex_neighbors(vertices, edges, faces, v, out),
-        Location::OnEdge(h) => edge_neighbors(vertices, edges, faces, q, h, out),
-        Location::OnFace(f) => face_neighbors(vertices, edges, faces, q, f, out),
-        Location::OutsideOfConvexHull(_) => Counts {
-            count: 0,
-            opened: 0,
-        },
+        Location::OnVertex(v) => vertex_neighbors(chart, v, out),
+        Location::OnEdge(h) => edge_neighbors(chart, q, h, out),
+        Location::OnFace(f) => face_neighbors(chart, q, f, out),
+        Location::OutsideOfConvexHull(_) => {
+            out.clear();
+            0
+        }
     }
 }

@@ -1,9 +1,8 @@
 -- 02, CR 11, the whole neighbourhood: for a load inside a face or on an inner edge of an accepted chart the faces opened are exactly those whose circle strictly
 -- holds it, and the listed edges are their borders to the rest, each once, in a closed ring. Of the answer's own search. Assumes nothing.
-use Rattle.std.specs.Prelude.{◌≡◌, ◌⊎◌, Bool, true, false, ◌&&◌, map, ltb, ℤ, pos}
+use Rattle.std.specs.Prelude.{◌≡◌, ◌⊎◌, Bool, true, false, ◌&&◌, map, ltb, pos}
 use Rattle.std.proofs.Math.Path.{refl}
 use Prim.Native.Nat.{ℕ, ◌<◌, ◌≤◌}
-use Rattle.std.specs.Int.Signed.{lt_z}
 use Rattle.faceset.specs.Set.{one, count_below}
 use Rattle.geometry.specs.declared.Place.{Place}
 use Rattle.geometry.specs.Plane.{circle}

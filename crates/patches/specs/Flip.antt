@@ -1,15 +1,13 @@
 -- `flip_cw`: the edge between two triangles is turned about, as two triangles written in. Assumes nothing.
-use Rattle.std.specs.Prelude.{◌≡◌, refl, ◌⊎◌, Bool, true, false, cond, List, [], ◌∷◌, ℕ, ◌<◌, eqb}
+use Rattle.std.specs.Prelude.{◌≡◌, refl, List, [], ◌∷◌, ℕ, ◌<◌}
 use Rattle.std.proofs.Math.Path.{sym, ap}
-use Rattle.std.proofs.Common.{subst, ◌∙◌, inl, inr, le_refl, eqb-true}
-use Rattle.std.proofs.lemmas.Bool.{eqb-false}
+use Rattle.std.proofs.Common.{subst, ◌∙◌}
 use Rattle.chart.specs.Chart.{Chart, partner, partner-twice}
 use Rattle.sound.specs.Sound.{Inner}
-use Rattle.patches.specs.Rows
 use Rattle.patches.specs.declared.Row.{Row}
-use Rattle.patches.specs.Rows.{turn, Hit, none, hit_of, face_hit, cases, at_key, at_rest, at-nil, face-rest, face-nil, missed, face-missed, Distinct, Throughout, throughout, hit-key}
-use Rattle.patches.specs.Wired.{Wired, prev-face, partner-below, next-differs, prev-differs, next-prev-differ, prev-end, next-end, same-face, faces-differ}
-use Rattle.patches.specs.Patch.{from_by, RowIn, Patch, patched, put, with_rows}
+use Rattle.patches.specs.Rows.{turn}
+use Rattle.patches.specs.Wired.{Wired, prev-face, partner-below, next-differs, prev-differs, prev-end, next-end, faces-differ}
+use Rattle.patches.specs.Patch.{RowIn, put, with_rows}
 
 -- of the edge e with partner t: e then goes from the one apex to the other
 abbrev pub flip_row : Chart → ℕ → ℕ → Row

@@ -1,15 +1,11 @@
 -- `insert_into_triangle`: a face is divided in three about a new vertex, as three triangles written in. Assumes nothing.
-use Rattle.std.specs.Prelude.{◌≡◌, refl, ◌⊎◌, Bool, true, false, cond, List, [], ◌∷◌, ℕ, suc, ◌+◌, ◌<◌, eqb, ℤ}
-use Rattle.std.proofs.Common.{sym, subst, ◌∙◌, inl, inr, arith, eqb-true}
-use Rattle.std.proofs.Math.Path.{ap}
-use Rattle.std.proofs.lemmas.Bool.{eqb-false}
+use Rattle.std.specs.Prelude.{◌≡◌, List, [], ◌∷◌, ℕ, suc, ◌+◌, ◌<◌, ℤ}
+use Rattle.std.proofs.Common.{arith}
 use Rattle.geometry.specs.declared.Place.{Place}
-use Rattle.chart.specs.Chart.{Chart, partner}
-use Rattle.sound.specs.Sound.{Inner}
+use Rattle.chart.specs.Chart.{Chart}
 use Rattle.patches.specs.declared.Row.{Row}
-use Rattle.patches.specs.Rows.{turn, row_from, row_at, Hit, none, hit, hit_of, face_hit, cases, at_key, at_rest, at-nil, face-rest, face-nil, Missed, missed, face-missed, Distinct, Throughout, throughout, hit-key, hit-next, hit-prev}
-use Rattle.patches.specs.Wired.{Wired, prev-face, partner-below, next-differs, prev-differs, next-prev-differ, prev-end, next-end, same-face}
-use Rattle.patches.specs.Patch.{from_by, RowIn, Patch, put, grown_with}
+use Rattle.patches.specs.Rows.{row_from, row_at}
+use Rattle.patches.specs.Patch.{put, grown_with}
 
 -- the triangles that replace triangle r: vertex n is across each of its half-edges; h and f are the first new half-edge and face
 abbrev pub insert_row₀ : Row → ℕ → ℕ → Row

@@ -1,16 +1,10 @@
 -- `split_edge`: the two faces at an inner edge are divided in four about a new vertex on it, as four triangles written in. Assumes nothing.
-use Rattle.std.specs.Prelude.{◌≡◌, refl, ◌⊎◌, Bool, true, false, cond, List, [], ◌∷◌, ℕ, ◌+◌, ◌<◌, eqb, ℤ}
-use Rattle.std.proofs.Math.Path.{sym, ap}
-use Rattle.std.proofs.Common.{subst, ◌∙◌, inl, inr, arith, eqb-true}
-use Rattle.std.proofs.lemmas.Bool.{eqb-false}
+use Rattle.std.specs.Prelude.{List, [], ◌∷◌, ℕ, ◌+◌, ℤ}
 use Rattle.geometry.specs.declared.Place.{Place}
-use Rattle.chart.specs.Chart.{Chart, partner, partner-twice}
-use Rattle.sound.specs.Sound.{Inner}
+use Rattle.chart.specs.Chart.{Chart, partner}
 use Rattle.patches.specs.declared.Row.{Row}
-use Rattle.patches.specs.Rows.{turn, row_from, row_at, Hit, none, hit, hit_of, face_hit, cases, at_key, at_rest, at-nil, face-rest, face-nil, Missed, missed, face-missed, Distinct, Throughout, throughout, hit-key, hit-next}
-use Rattle.patches.specs.Wired.{Wired, prev-face, partner-below, next-differs, prev-differs, next-prev-differ, prev-end, next-end, same-face, faces-differ}
-use Rattle.patches.specs.Patch.{from_by, RowIn, Patch, put, grown_with}
-use Rattle.patches.specs.Insert.{over, at-end, six, two-more}
+use Rattle.patches.specs.Rows.{row_from, row_at}
+use Rattle.patches.specs.Patch.{put, grown_with}
 
 -- the triangles that replace r and s, on both sides of an edge, about a vertex n on it; h and f are the first new half-edge and face
 abbrev pub split_row₀ : Row → ℕ → ℕ → Row

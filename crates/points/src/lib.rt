@@ -3,14 +3,16 @@
 
 ghost use Rattle.std.specs.Prelude.{◌≡◌, false, ◌<◌, pos};
 ghost use Rattle.whole.specs.Bound.{Within, outside};
-ghost use Rattle.geometry.specs.Plane.{OnGrid};
-ghost use Rattle.chart.specs.Tables.{rows, place_of, value_of};
-ghost use Rattle.chart.specs.Chart.{chart_of, InRange};
+ghost use Rattle.geometry.specs.Grid.{at};
+ghost use Rattle.chart.specs.Tables.{rows, value_of};
+ghost use Rattle.chart.specs.Seen.{seen};
 ghost use Rattle.ranges.specs.Ranges.{value_max};
 ghost use Rattle.points.specs.Floats.{exact_max, real_of};
 ghost use Rattle.points.specs.Points.{point_of, point_add, point_length2, point_sub, point_dot, project_point, relative_position, circumcenter_of};
 
-use geometry::Place;
+use chart::Chart;
+use geometry::GridPlace;
+use std::ops::{Add, Sub};
 
 #[derive(Clone, Copy)]
 pub struct Point2 {
@@ -26,34 +28,54 @@ pub struct PointProjection {
 }
 
 impl Point2 {
-    pub fn add(self, other: Point2) -> Point2
-        ensures { result ≡ point_add self other }
-    {
-        Point2 {
-            x: self.x + other.x,
-            y: self.y + other.y,
-        }
-    }
-
     pub fn length2(self) -> f64
         ensures { result ≡ point_length2 self }
     {
         self.x * self.x + self.y * self.y
     }
 
-    pub fn sub(self, other: Point2) -> Point2
-        ensures { result ≡ point_sub self other }
+    pub fn dot(self, other: Point2) -> f64
+        ensures { result ≡ point_dot self other }
     {
+        self.x * other.x + self.y * other.y
+    }
+}
+
+impl Add for Point2 {
+    type Output = Point2;
+
+    ghost add_gives = { λ p o r. r ≡ point_add p o };
+
+    fn add(self, other: Point2) -> Point2 {
+        Point2 {
+            x: self.x + other.x,
+            y: self.y + other.y,
+        }
+    }
+}
+
+impl Sub for Point2 {
+    type Output = Point2;
+
+    ghost sub_gives = { λ p o r. r ≡ point_sub p o };
+
+    fn sub(self, other: Point2) -> Point2 {
         Point2 {
             x: self.x - other.x,
             y: self.y - other.y,
         }
     }
+}
 
-    pub fn dot(self, other: Point2) -> f64
-        ensures { result ≡ point_dot self other }
-    {
-        self.x * other.x + self.y * other.y
+// A place of the grid as a point.
+impl From<GridPlace> for Point2 {
+    ghost from_gives = { λ p r. r ≡ point_of (at p) };
+
+    fn from(p: GridPlace) -> Point2 {
+        Point2 {
+            x: to_f64(p.x),
+            y: to_f64(p.y),
+        }
     }
 }
 
@@ -75,19 +97,20 @@ impl PointProjection {
 pub fn project_point(p1: Point2, p2: Point2, query: Point2) -> PointProjection
     ensures { result ≡ project_point p1 p2 query }
 {
-    let dir = p2.sub(p1);
+    let dir = p2 - p1;
     PointProjection {
-        factor: query.sub(p1).dot(dir),
+        factor: (query - p1).dot(dir),
         length_2: dir.length2(),
     }
 }
 
 // The center of the circle through three points. The Rust returns its squared radius too, which nothing here uses.
+#[tactic(auto, unfolding(crate::specs::Points::circumcenter_of))]
 pub fn circumcenter(v0: Point2, v1: Point2, v2: Point2) -> Point2
     ensures { result ≡ circumcenter_of v0 v1 v2 }
 {
-    let b = v1.sub(v0);
-    let c = v2.sub(v0);
+    let b = v1 - v0;
+    let c = v2 - v0;
     let one = 1.0;
     let two = one + one;
     let d = two * (b.x * c.y - c.x * b.y);
@@ -96,8 +119,7 @@ pub fn circumcenter(v0: Point2, v1: Point2, v2: Point2) -> Point2
     let d_inv = one / d;
     let x = (len_b * c.y - len_c * b.y) * d_inv;
     let y = (-len_b * c.x + len_c * b.x) * d_inv;
-    let result = Point2 { x, y };
-    result.add(v0)
+    Point2 { x, y } + v0
 }
 
 // The one cast of a whole number: `as` is the machine's own instruction, where nearest_i64_to_f64 is six times slower.
@@ -108,30 +130,18 @@ pub fn to_f64(z: i64) -> f64
     z as f64
 }
 
-// A place of the grid as a point.
-pub fn point_of(p: Place) -> Point2
-    requires { OnGrid p }
-    ensures { result ≡ point_of p }
-{
-    Point2 {
-        x: to_f64(p.x),
-        y: to_f64(p.y),
-    }
-}
-
 // The point of vertex v.
-pub fn position(vertices: &[i64], edges: &[usize], faces: &[usize], v: usize) -> Point2
-    requires fact_1 { InRange (chart_of vertices.now edges.now faces.now) }
-    requires fact_2 { v < rows vertices.now }
-    ensures { result ≡ point_of (place_of vertices.now v) }
+pub fn position(chart: &Chart, v: usize) -> Point2
+    requires { v < (seen chart.now).vertices }
+    ensures { result ≡ point_of ((seen chart.now).place v) }
 {
-    point_of(chart::place_of(vertices, v))
+    Point2::from(chart.place(v))
 }
 
-// The value of vertex v, which row 6 has let pass.
+// The value of vertex v, which row 6 has let pass. It takes the one table: a chart would ask the same of every vertex.
 pub fn value(vertices: &[i64], v: usize) -> f64
-    requires fact_1 { v < rows vertices.now }
-    requires fact_2 { outside (pos 0) (pos value_max) (value_of vertices.now v) ≡ false }
+    requires vertex { v < rows vertices.now }
+    requires in_range { outside (pos 0) (pos value_max) (value_of vertices.now v) ≡ false }
     ensures { result ≡ real_of (value_of vertices.now v) }
 {
     to_f64(chart::value_of(vertices, v))

@@ -5,9 +5,8 @@ use Rattle.std.proofs.Math.ListN.{get_or-append}
 use Rattle.std.proofs.lemmas.List.{take-append-le, drop-append-le}
 use Rattle.text.specs.Field.{field_width, field_of}
 use Rattle.tables.specs.Table.{given, join, cell_of, line_bytes, line_of}
-use Rattle.reading.specs.declared.Head.{Head}
-use Rattle.reading.specs.declared.Head.TheVariants.{Refused, Counts}
-use Rattle.reading.specs.Reading.{head_length, head_line, head_of, file_length, body_of, load_of, chart_in, chart_refusal_of}
+use Rattle.reading.specs.Reading.Head.{Refused, Counts}
+use Rattle.reading.specs.Reading.{Head, head_length, head_line, head_of, file_length, body_of, load_of, chart_in, chart_refusal_of}
 use Rattle.reading.specs.Laws.{head-counted, head-refusal}
 use Rattle.log_text.specs.Log.{Log, log_max, whole_log}
 use Rattle.log_text.proofs.Callers.{kept-suffices}

@@ -9,7 +9,7 @@ use lib.IntN.{ℤ}
 use lib.ListN.{length, take, drop}
 use lib.Seq.{take_at, length-take-le}
 use Rattle.book.specs.declared.Book.{Book}
-use Rattle.book.specs.declared.Returned.{Returned}
+use Rattle.book.specs.Returned.{Returned}
 use Rattle.book.specs.Books.{bad_book}
 use Rattle.book.specs.Laws.{fresh-valid, valid-book}
 use Rattle.reading.specs.Reading.{chart_refusal_of}
@@ -48,15 +48,15 @@ module _ (chart : List ℕ) (es : List ℤ) (lent left : List ℕ) (r : Returned
   refusal-left = ap (λ (o : Outcome). o.refusal) settled ∙ told-refusal (chart_refusal_of chart) program_book chart es lent
 
 -- What a batch that is not refused leaves.
-module _ (chart : List ℕ) (es : List ℤ) (lent left : List ℕ) (r : Returned) (h : r.refusal ≡ 0) (w : WholeEntries es) (l : entries_max ≤ length lent)
-    (e : outcome r left ≡ batch_of queries program_book chart es lent) where
+module _ (chart : List ℕ) (es : List ℤ) (lent left : List ℕ) (b : Book) (w : WholeEntries es) (l : entries_max ≤ length lent)
+    (e : outcome (record { refusal = 0; book = b }) left ≡ batch_of queries program_book chart es lent) where
   pub accepted : chart_refusal_of chart ≡ 0
-  accepted = sym (refusal-left chart es lent left r w l e) ∙ h
+  accepted = sym (refusal-left chart es lent left (record { refusal = 0; book = b }) w l e)
 
-  done : outcome r left ≡ by_refusal queries 0 program_book chart es lent
-  done = settled chart es lent left r w l e ∙ ap (λ (k : ℕ). by_refusal queries k program_book chart es lent) accepted
+  done : outcome (record { refusal = 0; book = b }) left ≡ by_refusal queries 0 program_book chart es lent
+  done = settled chart es lent left (record { refusal = 0; book = b }) w l e ∙ ap (λ (k : ℕ). by_refusal queries k program_book chart es lent) accepted
 
-  pub book-left : r.book ≡ book_after queries chart program_book (entries_of es)
+  pub book-left : b ≡ book_after queries chart program_book (entries_of es)
   book-left = ap (λ (o : Outcome). o.book) done
 
   pub answers-left : take (length es / entry_width) left ≡ answers_from queries chart program_book (entries_of es)

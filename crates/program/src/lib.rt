@@ -2,11 +2,17 @@
 #![tactic(auto)]
 
 ghost use Rattle.std.specs.Prelude.{◌≡◌, ◌≤◌, length};
+ghost use Rattle.refusal.specs.Number.{number};
+ghost use Rattle.book.specs.Returned.{returned_of};
+ghost use Rattle.accounts.specs.Batch.{outcome, batch_of};
+ghost use Rattle.estivolh.specs.Account.{queries};
 ghost use Rattle.log_text.specs.Log.{entries_max};
 ghost use Rattle.report.specs.Lines.{refusal_line};
-ghost use Rattle.program.specs.Program.{output_max, entries_printed, refusal_printed, printed_of, Printed, WholeEntries};
+ghost use Rattle.program.specs.Program.{program_book, output_max, entries_printed, refusal_printed, printed_of, Printed, WholeEntries};
 
+use book::Book;
 use entries::ENTRY_WIDTH;
+use refusal::Refusal;
 
 // Room for the answers of the longest log.
 fn answer_room() -> [u64; 512]
@@ -15,15 +21,22 @@ fn answer_room() -> [u64; 512]
     [0u64; 512]
 }
 
-// The number that is printed where the log is refused: chart first.
-fn first_refusal(chart: &[u8], log: u64) -> u64
-    ensures { refusal_line result ≡ refusal_printed chart.now log }
+// What refuses a chart and a log that is refused: chart first.
+fn first_refusal(chart: &[u8], log: Refusal) -> Refusal
+    ensures { refusal_line (number result) ≡ refusal_printed chart.now (number log) }
 {
-    let refusal = estivolh::check(chart);
-    if refusal != 0 {
-        return refusal;
+    match estivolh::check(chart) {
+        Ok(()) => log,
+        Err(refusal) => refusal,
     }
-    log
+}
+
+// A log's entries on a fresh book, under a chart: the book after them, and an answer for each.
+fn batch_on_fresh(chart: &[u8], entries: &[i64], answers: &mut [u64]) -> Result<Book, Refusal>
+    ensures { outcome (returned_of result program_book) answers.new ≡ batch_of queries program_book chart.now entries.now answers.old }
+{
+    let book = estivolh::fresh(report::SECTIONS as u64)?;
+    estivolh::batch(book, chart, entries, answers)
 }
 
 // The entries of a log on a fresh book: the answers and the book, or what refuses the chart. The batch checks the chart, so that a run
@@ -34,13 +47,13 @@ fn print_entries(chart: &[u8], entries: &[i64], out: &mut [u8]) -> usize
     ensures { Printed out.old (entries_printed chart.now entries.now) out.new result }
 {
     let mut answers = answer_room();
-    let fresh = estivolh::fresh(report::SECTIONS as u64);
-    let done = estivolh::batch(fresh.book, chart, entries, &mut answers);
-    if done.refusal != 0 {
-        return report::put_refusal(out, done.refusal);
+    match batch_on_fresh(chart, entries, &mut answers) {
+        Ok(book) => {
+            let n = entries.len() / ENTRY_WIDTH;
+            report::put_output(out, &answers[..n], book)
+        }
+        Err(refusal) => report::put_refusal(out, refusal.number()),
     }
-    let n = entries.len() / ENTRY_WIDTH;
-    report::put_output(out, &answers[..n], done.book)
 }
 
 // What the program prints for a chart and a log of `size` bytes, of which the first that an accepted log can have are enough.
@@ -50,10 +63,8 @@ pub fn print(chart: &[u8], size: usize, log: &[u8], out: &mut [u8]) -> usize
     ensures { Printed out.old (printed_of chart.now size log.now) out.new result }
 {
     let mut entries = log_text::entry_room();
-    let read = log_text::read_log(size, log, &mut entries);
-    if read.refusal != 0 {
-        return report::put_refusal(out, first_refusal(chart, read.refusal));
+    match log_text::read_log(size, log, &mut entries) {
+        Ok(n) => print_entries(chart, &entries[..ENTRY_WIDTH * n], out),
+        Err(refusal) => report::put_refusal(out, first_refusal(chart, refusal).number()),
     }
-    let k = ENTRY_WIDTH * read.entries;
-    print_entries(chart, &entries[..k], out)
 }

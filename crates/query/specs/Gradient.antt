@@ -1,12 +1,13 @@
 -- The public call `estimate_gradient`: 01, "Gradient and value", behind the refusals of the chart and of the vertex number.
-use Rattle.std.specs.Prelude.{cond, List, ℕ, ltb, Float}
+use Rattle.std.specs.Prelude.{cond, List, ℕ, ltb, Float, Result, Ok, Err}
+use Rattle.refusal.specs.declared.Refusal.{Refusal}
+use Rattle.refusal.specs.Number.{number}
 use Rattle.chart.specs.Chart.{Chart, chart_of}
 use Rattle.checks.specs.Checks.{Loaded}
 use Rattle.checks.specs.Checks.Loaded.{loaded, refused}
 use Rattle.reading.specs.Reading.{chart_in}
+use Rattle.gradient.specs.declared.Gradient.{Gradient}
 use Rattle.gradient.specs.Gradient.{gradient_of}
-use Rattle.query.specs.declared.EstimatedGradient.{EstimatedGradient}
-use Rattle.query.specs.declared.EstimatedGradient.TheVariants.{Components, Refused}
 
 -- the two components, or the number of the refusal
 pub data Slope : Type 0 where
@@ -14,9 +15,9 @@ pub data Slope : Type 0 where
   turned_down : ℕ → Slope
 
 -- what each case of the call's answer says, in 01's numbers and values
-abbrev pub gradient_says : EstimatedGradient → Slope
-gradient_says (Components x y) = slope x y
-gradient_says (Refused n) = turned_down n
+abbrev pub gradient_says : Result Gradient Refusal → Slope
+gradient_says (Ok g) = slope g.x g.y
+gradient_says (Err r) = turned_down (number r)
 
 -- 12: vertex number unknown
 unfoldable pub gradient_on : Chart → ℕ → Slope

@@ -1,5 +1,7 @@
 -- The public call `locate`: 01, "Location", behind the refusals of the chart and of the query.
-use Rattle.std.specs.Prelude.{cond, List, ℕ, ℤ}
+use Rattle.std.specs.Prelude.{cond, List, ℕ, ℤ, Result, Ok, Err}
+use Rattle.refusal.specs.declared.Refusal.{Refusal}
+use Rattle.refusal.specs.Number.{number}
 use Rattle.geometry.specs.declared.Place.{Place}
 use Rattle.geometry.specs.Plane.{off_grid}
 use Rattle.chart.specs.Chart.{Chart, chart_of}
@@ -7,10 +9,7 @@ use Rattle.checks.specs.Checks.{Loaded}
 use Rattle.checks.specs.Checks.Loaded.{loaded, refused}
 use Rattle.reading.specs.Reading.{chart_in}
 use Rattle.locate.specs.declared.Location.{Location}
-use Rattle.locate.specs.declared.Location.TheVariants.{OnVertex, OnEdge, OnFace, OutsideOfConvexHull}
 use Rattle.locate.specs.Location.{location_of}
-use Rattle.query.specs.declared.PositionInTriangulation as P
-use Rattle.query.specs.declared.PositionInTriangulation.{PositionInTriangulation}
 
 -- a location, or the number of the refusal
 pub data Located : Type 0 where
@@ -18,12 +17,9 @@ pub data Located : Type 0 where
   turned_down : ℕ → Located
 
 -- what each case of the call's answer says, in 01's numbers
-abbrev pub position_says : PositionInTriangulation → Located
-position_says (P.TheVariants.OnVertex v) = at (OnVertex v)
-position_says (P.TheVariants.OnEdge h) = at (OnEdge h)
-position_says (P.TheVariants.OnFace f) = at (OnFace f)
-position_says (P.TheVariants.OutsideOfConvexHull h) = at (OutsideOfConvexHull h)
-position_says (P.TheVariants.Refused n) = turned_down n
+abbrev pub position_says : Result Location Refusal → Located
+position_says (Ok l) = at l
+position_says (Err r) = turned_down (number r)
 
 -- 13: x or y not -10,000 to 10,000; then the location: only this call answers "outside" with a half-edge, not 14
 unfoldable pub locate_on : Chart → Place → Located

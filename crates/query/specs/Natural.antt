@@ -1,22 +1,22 @@
 -- The public calls `natural_neighbor_edges` and `natural_neighbor_weights`: 01, "Weights", behind the refusals of the chart (2 right after 4), the
 -- query and the location.
-use Rattle.std.specs.Prelude.{cond, ◌||◌, List, ◌++◌, ℕ, zero, suc, ◌≤◌, ◌<◌, ◌≡◌, refl, ltb, ℤ, Float, length, drop}
+use Rattle.std.specs.Prelude.{cond, ◌||◌, List, ◌++◌, ℕ, zero, suc, ◌≤◌, ◌<◌, ◌≡◌, refl, ltb, ℤ, Float, length, drop, Result, Ok, Err}
 use Rattle.std.proofs.Common.{arith, lt-ltb, le-ltb}
+use Rattle.refusal.specs.declared.Refusal.{Refusal}
+use Rattle.refusal.specs.Number.{number}
 use Rattle.geometry.specs.declared.Place.{Place}
 use Rattle.geometry.specs.Plane.{off_grid}
 use Rattle.chart.specs.Chart.{Chart, chart_of}
 use Rattle.checks.specs.Checks.{Loaded}
 use Rattle.checks.specs.Checks.Loaded.{loaded, refused}
-use Rattle.reading.specs.declared.Head.{Head}
-use Rattle.reading.specs.declared.Head.TheVariants as H
-use Rattle.reading.specs.Reading.{head_of, load_of}
+use Rattle.reading.specs.Reading.Head.{Refused, Counts}
+use Rattle.reading.specs.Reading.{Head, head_of, load_of}
 use Rattle.locate.specs.declared.Location.{Location}
 use Rattle.locate.specs.Location.{location_of}
 use Rattle.neighbors.specs.Neighbors.{neighbors_of}
 use Rattle.natural.specs.Natural.{Outcome, natural_weights_of}
 use Rattle.values.specs.Located.{place_refusal}
-use Rattle.query.specs.declared.NaturalNeighbors.{NaturalNeighbors}
-use Rattle.query.specs.declared.NaturalNeighbors.TheVariants.{Listed, Refused}
+use Rattle.query.specs.declared.Listed.{Listed}
 
 -- how many edges or weights were written and how many faces were opened, or the number of the refusal
 pub data Tally : Type 0 where
@@ -24,9 +24,9 @@ pub data Tally : Type 0 where
   turned_down : ℕ → Tally
 
 -- what each case of the calls' answer says, in 01's numbers
-abbrev pub neighbors_say : NaturalNeighbors → Tally
-neighbors_say (Listed n o) = listed n o
-neighbors_say (Refused n) = turned_down n
+abbrev pub neighbors_say : Result Listed Refusal → Tally
+neighbors_say (Ok l) = listed l.count l.opened
+neighbors_say (Err r) = turned_down (number r)
 
 -- ---- the edges call: its answer, and the lent slice as it returns
 pub record Edges : Type 0 where
@@ -38,7 +38,7 @@ abbrev pub edges_refused : ℕ → List ℕ → Edges
 edges_refused n lent = record { answer = turned_down n; slice = lent }
 
 -- what a call said and left: for the contracts alone, so that no answer is stated in its terms
-abbrev pub edges_left : NaturalNeighbors → List ℕ → Edges
+abbrev pub edges_left : Result Listed Refusal → List ℕ → Edges
 edges_left r s = record { answer = neighbors_say r; slice = s }
 
 -- the edges in front, the rest of the slice as it was
@@ -63,15 +63,15 @@ edges_in (refused n) q lent = edges_refused n lent
 
 -- 2: the slice is shorter than the chart's half-edge count, tested right after 4
 abbrev pub edges_after : Head → List ℕ → Place → List ℕ → Edges
-edges_after (H.Refused n) s q lent = edges_refused n lent
-edges_after (H.Counts v e f) s q lent =
+edges_after (Refused n) s q lent = edges_refused n lent
+edges_after (Counts v e f) s q lent =
     cond (ltb (length lent) e) (edges_refused 2 lent) (edges_in (load_of v e f s) q lent)
 
 abbrev pub natural_edges_of : List ℕ → ℤ → ℤ → List ℕ → Edges
 natural_edges_of s x y lent = edges_after (head_of s) s (record { x = x; y = y }) lent
 
 -- ---- behind the head: 2, or the body
-module _ (s : List ℕ) (q : Place) (v e f : ℕ) (h : head_of s ≡ H.Counts v e f) where
+module _ (s : List ℕ) (q : Place) (v e f : ℕ) (h : head_of s ≡ Counts v e f) where
   pub edges-short : (lent : List ℕ) → length lent < e → edges_refused 2 lent ≡ edges_after (head_of s) s q lent
   edges-short lent l = rw (h, lt-ltb _ _ l)
 
@@ -98,7 +98,7 @@ abbrev pub shares_refused : ℕ → List ℕ → List Float → Shares
 shares_refused n os ws = record { answer = turned_down n; owners = os; weights = ws }
 
 -- what a call said and left: for the contracts alone
-abbrev pub shares_left : NaturalNeighbors → List ℕ → List Float → Shares
+abbrev pub shares_left : Result Listed Refusal → List ℕ → List Float → Shares
 shares_left r os ws = record { answer = neighbors_say r; owners = os; weights = ws }
 
 -- vertices and weights in front, the rest of the slices as it was
@@ -124,14 +124,14 @@ shares_in (refused n) q os ws = shares_refused n os ws
 
 -- 2: one of the slices is shorter than the chart's half-edge count
 abbrev pub shares_after : Head → List ℕ → Place → List ℕ → List Float → Shares
-shares_after (H.Refused n) s q os ws = shares_refused n os ws
-shares_after (H.Counts v e f) s q os ws =
+shares_after (Refused n) s q os ws = shares_refused n os ws
+shares_after (Counts v e f) s q os ws =
     cond (ltb (length os) e || ltb (length ws) e) (shares_refused 2 os ws) (shares_in (load_of v e f s) q os ws)
 
 abbrev pub natural_shares_of : List ℕ → ℤ → ℤ → List ℕ → List Float → Shares
 natural_shares_of s x y os ws = shares_after (head_of s) s (record { x = x; y = y }) os ws
 
-module _ (s : List ℕ) (q : Place) (v e f : ℕ) (h : head_of s ≡ H.Counts v e f) (os : List ℕ) (ws : List Float) where
+module _ (s : List ℕ) (q : Place) (v e f : ℕ) (h : head_of s ≡ Counts v e f) (os : List ℕ) (ws : List Float) where
   pub shares-short : length os < e → shares_refused 2 os ws ≡ shares_after (head_of s) s q os ws
   shares-short l = rw (h, lt-ltb _ _ l)
 

@@ -1,109 +1,60 @@
 // The queries on checked tables, behind the refusals 12 to 14.
 #![tactic(auto)]
 
-ghost use Rattle.std.specs.Prelude.{◌≡◌, ◌++◌, ◌≤◌, length, drop};
-ghost use Rattle.geometry.specs.Plane.{OnGrid};
-ghost use Rattle.chart.specs.Tables.{rows};
-ghost use Rattle.chart.specs.Chart.{chart_of, InRange};
-ghost use Rattle.gradient.specs.Gradient.{Valued};
-ghost use Rattle.query.specs.Gradient.{gradient_says, gradient_on};
-ghost use Rattle.accepted.specs.Accepted.{Accepted};
+ghost use Rattle.std.specs.Prelude.{◌≡◌, ◌++◌, ◌≤◌, Ok, length, drop};
+ghost use Rattle.geometry.specs.Grid.{at};
+ghost use Rattle.chart.specs.Seen.{seen};
 ghost use Rattle.locate.specs.Laws.{Holds};
-ghost use Rattle.query.specs.Natural.{neighbors_say, edges_left, edges_at, edges_on, shares_left, shares_at, shares_on};
-ghost use Rattle.query.specs.Location.{position_says, locate_on};
-ghost use Rattle.query.specs.Location.Located.{at};
 ghost use Rattle.weights.specs.Barycentric.{weights_say};
+ghost use Rattle.query.specs.Gradient.{gradient_says, gradient_on};
+ghost use Rattle.query.specs.Natural.{edges_left, edges_at, edges_on, shares_left, shares_at, shares_on};
+ghost use Rattle.query.specs.Location.{position_says, locate_on};
 ghost use Rattle.query.specs.Weights.{barycentric_on};
 
-use geometry::Place;
+use accepted::AcceptedChart;
+use flips::HalfEdges;
+use geometry::{GridPlace, Place};
+use gradient::{Gradient, ValuedChart};
 use locate::Location;
+use natural::EdgeList;
+use refusal::Refusal;
 use weights::BarycentricWeights;
 
-// Where a load lies; the numbers are those of vertices, half-edges and faces. Or the refusal.
-#[derive(Clone, Copy)]
-pub enum PositionInTriangulation {
-    OnVertex(u64),
-    OnEdge(u64),
-    OnFace(u64),
-    OutsideOfConvexHull(u64),
-    Refused(u64),
-}
-
-// The location as the call answers it.
-fn position(place: Location) -> PositionInTriangulation
-    ensures { position_says result ≡ at place }
+// On checked tables: 13, then where the load lies; the numbers are those of vertices, half-edges and faces.
+#[tactic(auto, unfolding(crate::specs::Location::locate_on))]
+pub fn locate_on(accepted: &AcceptedChart, q: Place) -> Result<Location, Refusal>
+    ensures { position_says result ≡ locate_on (seen accepted.now.chart) q }
 {
-    match place {
-        Location::OnVertex(v) => PositionInTriangulation::OnVertex(v as u64),
-        Location::OnEdge(h) => PositionInTriangulation::OnEdge(h as u64),
-        Location::OnFace(f) => PositionInTriangulation::OnFace(f as u64),
-        Location::OutsideOfConvexHull(h) => PositionInTriangulation::OutsideOfConvexHull(h as u64),
-    }
-}
-
-// On checked tables: 13, then the location.
-pub fn locate_on(
-    vertices: &[i64],
-    edges: &[usize],
-    faces: &[usize],
-    q: Place,
-) -> PositionInTriangulation
-    requires { Accepted (chart_of vertices.now edges.now faces.now) }
-    ensures { position_says result ≡ locate_on (chart_of vertices.now edges.now faces.now) q }
-{
-    if geometry::off_grid(q) {
-        return PositionInTriangulation::Refused(13);
-    }
-    position(locate::locate(vertices, edges, faces, q))
+    let q = GridPlace::new(q.x, q.y).ok_or(Refusal::OffGrid)?;
+    Ok(locate::locate(&accepted.chart, q))
 }
 
 // On checked tables: 13, then the weights where the load lies.
-pub fn weights_on(
-    vertices: &[i64],
-    edges: &[usize],
-    faces: &[usize],
-    q: Place,
-) -> BarycentricWeights
-    requires { Accepted (chart_of vertices.now edges.now faces.now) }
-    ensures { weights_say result ≡ barycentric_on (chart_of vertices.now edges.now faces.now) q }
+#[tactic(auto, unfolding(crate::specs::Weights::barycentric_on))]
+pub fn weights_on(accepted: &AcceptedChart, q: Place) -> Result<BarycentricWeights, Refusal>
+    ensures { weights_say result ≡ barycentric_on (seen accepted.now.chart) q }
 {
-    if geometry::off_grid(q) {
-        return BarycentricWeights::Refused(13);
-    }
-    let place = locate::locate(vertices, edges, faces, q);
-    values::weights_at(vertices, edges, faces, q, place)
-}
-
-// The gradient's two components, or the refusal.
-#[derive(Clone, Copy)]
-pub enum EstimatedGradient {
-    Components(f64, f64),
-    Refused(u64),
+    let q = GridPlace::new(q.x, q.y).ok_or(Refusal::OffGrid)?;
+    let place = locate::locate(&accepted.chart, q);
+    values::weights_at(&accepted.chart, q, place)
 }
 
 // On checked tables: 12, then the gradient.
-pub fn gradient_on(
-    vertices: &[i64],
-    edges: &[usize],
-    faces: &[usize],
-    v: usize,
-) -> EstimatedGradient
-    requires fact_1 { InRange (chart_of vertices.now edges.now faces.now) }
-    requires fact_2 { Valued (chart_of vertices.now edges.now faces.now) }
-    ensures { gradient_says result ≡ gradient_on (chart_of vertices.now edges.now faces.now) v }
+#[tactic(auto, unfolding(crate::specs::Gradient::gradient_on))]
+pub fn gradient_on(valued: &ValuedChart, v: usize) -> Result<Gradient, Refusal>
+    ensures { gradient_says result ≡ gradient_on (seen valued.now.chart) v }
 {
-    if v < vertices.len() / 4 {
-        let g = gradient::estimate_gradient(vertices, edges, faces, v);
-        return EstimatedGradient::Components(g.x, g.y);
+    if v < valued.chart.vertex_count() {
+        return Ok(gradient::estimate_gradient(valued, v));
     }
-    EstimatedGradient::Refused(12)
+    Err(Refusal::Unknown)
 }
 
-// How many edges or weights were written, and how many faces were opened; or the refusal.
-#[derive(Clone, Copy)]
-pub enum NaturalNeighbors {
-    Listed(u64, u64),
-    Refused(u64),
+// How many edges or weights were written, and how many faces were opened.
+#[derive(Clone, Copy, PartialEq, Eq)]
+pub struct Listed {
+    pub count: usize,
+    pub opened: usize,
 }
 
 // A list into the first elements of a lent slice.
@@ -111,103 +62,78 @@ fn copy_list(list: &[usize], out: &mut [u64])
     requires { length list.now ≤ length out.old }
     ensures { out.new ≡ list.now ++ drop (length list.now) out.old }
 {
-    let mut i = 0;
-    while i < list.len() {
-        out[i] = list[i] as u64;
-        i += 1;
+    for (i, h) in list.iter().enumerate() {
+        out[i] = *h as u64;
     }
 }
 
 // At a location that was found: the edges found, then copied out.
-fn edges_at(
-    vertices: &[i64],
-    edges: &[usize],
-    faces: &[usize],
-    q: Place,
-    place: Location,
-    out: &mut [u64],
-) -> NaturalNeighbors
-    requires fact_1 { Accepted (chart_of vertices.now edges.now faces.now) }
-    requires fact_2 { OnGrid q }
-    requires fact_3 { Holds (chart_of vertices.now edges.now faces.now) q place }
-    requires fact_4 { rows edges.now ≤ length out.old }
-    ensures { edges_left result out.new ≡ edges_at (chart_of vertices.now edges.now faces.now) q place out.old }
+fn edges_at(accepted: &AcceptedChart, q: GridPlace, place: Location, out: &mut [u64]) -> Listed
+    requires holds { Holds (seen accepted.now.chart) (at q) place }
+    requires room { (seen accepted.now.chart).half_edges ≤ length out.old }
+    ensures { edges_left (Ok result) out.new ≡ edges_at (seen accepted.now.chart) (at q) place out.old }
 {
-    let mut list = values::list_room();
-    let found = neighbors::get_natural_neighbor_edges(vertices, edges, faces, q, place, &mut list);
-    let n = found.count;
-    copy_list(&list[..n], out);
-    NaturalNeighbors::Listed(n as u64, found.opened as u64)
+    let mut list = HalfEdges::new();
+    let opened = neighbors::get_natural_neighbor_edges(&accepted.chart, q, place, &mut list);
+    copy_list(&list, out);
+    Listed {
+        count: list.len(),
+        opened,
+    }
 }
 
 // On checked tables: 13, 14, then the edges.
-pub fn edges_on(
-    vertices: &[i64],
-    edges: &[usize],
-    faces: &[usize],
-    q: Place,
-    out: &mut [u64],
-) -> NaturalNeighbors
-    requires fact_1 { Accepted (chart_of vertices.now edges.now faces.now) }
-    requires fact_2 { rows edges.now ≤ length out.old }
-    ensures { edges_left result out.new ≡ edges_on (chart_of vertices.now edges.now faces.now) q out.old }
+#[tactic(auto, unfolding(crate::specs::Natural::edges_on))]
+pub fn edges_on(accepted: &AcceptedChart, q: Place, out: &mut [u64]) -> Result<Listed, Refusal>
+    requires { (seen accepted.now.chart).half_edges ≤ length out.old }
+    ensures { edges_left result out.new ≡ edges_on (seen accepted.now.chart) q out.old }
 {
-    if geometry::off_grid(q) {
-        return NaturalNeighbors::Refused(13);
-    }
-    let place = locate::locate(vertices, edges, faces, q);
-    let refusal = values::place_refusal(place);
-    if refusal != 0 {
-        return NaturalNeighbors::Refused(refusal);
-    }
-    edges_at(vertices, edges, faces, q, place, out)
+    let q = GridPlace::new(q.x, q.y).ok_or(Refusal::OffGrid)?;
+    let place = locate::locate(&accepted.chart, q);
+    values::place_refusal(place)?;
+    Ok(edges_at(accepted, q, place, out))
 }
 
 // At a location that was found: the edges, and the weights from them.
 fn shares_at(
-    vertices: &[i64],
-    edges: &[usize],
-    faces: &[usize],
-    q: Place,
+    accepted: &AcceptedChart,
+    q: GridPlace,
     place: Location,
     owners: &mut [u64],
     weights: &mut [f64],
-) -> NaturalNeighbors
-    requires fact_1 { Accepted (chart_of vertices.now edges.now faces.now) }
-    requires fact_2 { OnGrid q }
-    requires fact_3 { Holds (chart_of vertices.now edges.now faces.now) q place }
-    requires fact_4 { rows edges.now ≤ length owners.old }
-    requires fact_5 { rows edges.now ≤ length weights.old }
-    ensures { shares_left result owners.new weights.new ≡ shares_at (chart_of vertices.now edges.now faces.now) q place owners.old weights.old }
+) -> Listed
+    requires holds { Holds (seen accepted.now.chart) (at q) place }
+    requires owners_room { (seen accepted.now.chart).half_edges ≤ length owners.old }
+    requires weights_room { (seen accepted.now.chart).half_edges ≤ length weights.old }
+    ensures { shares_left (Ok result) owners.new weights.new ≡ shares_at (seen accepted.now.chart) (at q) place owners.old weights.old }
 {
-    let mut list = values::list_room();
-    let found = neighbors::get_natural_neighbor_edges(vertices, edges, faces, q, place, &mut list);
-    let n = found.count;
-    natural::natural_weights(vertices, edges, faces, q, &list[..n], owners, weights);
-    NaturalNeighbors::Listed(n as u64, found.opened as u64)
+    let mut list = HalfEdges::new();
+    let opened = neighbors::get_natural_neighbor_edges(&accepted.chart, q, place, &mut list);
+    let edges = EdgeList {
+        chart: accepted.chart,
+        edges: &list,
+    };
+    natural::natural_weights(&edges, q, owners, weights);
+    Listed {
+        count: list.len(),
+        opened,
+    }
 }
 
 // On checked tables: 13, 14, then the weights.
+#[tactic(auto, unfolding(crate::specs::Natural::shares_on))]
 pub fn shares_on(
-    vertices: &[i64],
-    edges: &[usize],
-    faces: &[usize],
+    accepted: &AcceptedChart,
     q: Place,
     owners: &mut [u64],
     weights: &mut [f64],
-) -> NaturalNeighbors
-    requires fact_1 { Accepted (chart_of vertices.now edges.now faces.now) }
-    requires fact_2 { rows edges.now ≤ length owners.old }
-    requires fact_3 { rows edges.now ≤ length weights.old }
-    ensures { shares_left result owners.new weights.new ≡ shares_on (chart_of vertices.now edges.now faces.now) q owners.old weights.old }
+) -> Result<Listed, Refusal>
+    requires owners_room { (seen accepted.now.chart).half_edges ≤ length owners.old }
+    requires weights_room { (seen accepted.now.chart).half_edges ≤ length weights.old }
+    ensures { shares_left result owners.new weights.new ≡ shares_on (seen accepted.now.chart) q owners.old weights.old }
 {
-    if geometry::off_grid(q) {
-        return NaturalNeighbors::Refused(13);
-    }
-    let place = locate::locate(vertices, edges, faces, q);
-    let refusal = values::place_refusal(place);
-    if refusal != 0 {
-        return NaturalNeighbors::Refused(refusal);
-    }
-    shares_at(vertices, edges, faces, q, place, owners, weights)
+    let q = GridPlace::new(q.x, q.y).ok_or(Refusal::OffGrid)?;
+    let place = locate::locate(&accepted.chart, q);
+    values::place_refusal(place)?;
+    Ok(shares_at(accepted, q, place, owners, weights))
 }

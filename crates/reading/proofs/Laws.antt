@@ -1,19 +1,17 @@
 -- Laws of the definitions of specs/Reading.antt, a step at a time. Assumes nothing.
-use Prim.Native.Nat.{ℕ, zero, suc, ◌+◌, ◌*◌, ◌≤◌, ◌<◌}
-use mathlib.Core.List.{List}
-use mathlib.Core.Bool.{Bool, cond}
-use mathlib.Core.Path.{◌≡◌, refl, ap, ◌∙◌}
-use native.Mathlib.Omega.{arith}
-use lib.ListN.{length, drop}
-use lib.IntN.{ℤ}
-use borrow.Author.Tests.{lt-ltb, le-ltb, eq-eqb, ne_eqb}
-use Rattle.tables.specs.Table.{Cells, line_of, table_of, line_bytes}
+use Rattle.std.specs.Prelude.{Result, Ok, Err, IfOk, ℕ, zero, suc, ◌+◌, ◌*◌, ◌≤◌, ◌<◌, List, Bool, true, false, cond, ◌≡◌, length, drop, ℤ, pos, negsuc}
+use Rattle.std.proofs.Common.{refl, ap, ◌∙◌, arith, lt-ltb, le-ltb, eq-eqb, ne_eqb}
+use Rattle.refusal.specs.declared.Refusal.{Refusal}
+use Rattle.refusal.specs.Number.{refusal_of, number-positive}
+use Rattle.tables.specs.Table.{Cells, given, line_of, table_of, line_bytes}
 use Rattle.tables.specs.Table.Cells.{cells, bad}
-use Rattle.chart.specs.Tables.{unsigned_all}
+use Rattle.chart.specs.Tables.{unsigned, unsigned_all}
+use Rattle.ranges.specs.declared.counts.Counts.{Counts as KnownCounts}
+use Rattle.ranges.specs.Ranges.{counts_refused}
 use Rattle.checks.specs.Checks.{tables_refusal, Loaded, told}
-use Rattle.reading.specs.declared.Head.TheVariants.{Refused}
-use Rattle.reading.specs.Reading.{head_length, head_line, head_of, file_length, three, body_of, said_body, load_body, load_of}
-use Rattle.reading.specs.Reading.Body.{malformed}
+use Rattle.reading.specs.Reading.Head.{Refused, Counts}
+use Rattle.reading.specs.Reading.{counts_of, head_says, head_length, head_line, head_of, file_length, three, body_of, said_body, load_body, load_of}
+use Rattle.reading.specs.Reading.Body.{body, malformed}
 
 -- ---- line 1
 pub head-short : (s : List ℕ) → length s < head_length → head_of s ≡ Refused 3
@@ -43,13 +41,38 @@ body-second v e f s h q =
     body-three v e f s (table_of 4 v (drop head_length s)) bad (table_of 1 f (drop (head_length + line_bytes 4 * v + line_bytes 4 * e) s)) h refl q refl
     ∙ three-second (table_of 4 v (drop head_length s)) (table_of 1 f (drop (head_length + line_bytes 4 * v + line_bytes 4 * e) s))
 
+-- the last table, once the two before it are read
+pub body-last : (v e f : ℕ) (s : List ℕ) (a b c : List ℤ) (ok : Bool) (r : ℕ) → length s ≡ file_length v e f
+    → table_of 4 v (drop head_length s) ≡ cells a → table_of 4 e (drop (head_length + line_bytes 4 * v) s) ≡ cells b → table_of 1 f (drop (head_length + line_bytes 4 * v + line_bytes 4 * e) s) ≡ given ok c → r ≡ cond ok 0 5 → body_of v e f s ≡ said_body r a b c
+body-last v e f s a b c true r h p q t n = rw n (body-three v e f s (cells a) (cells b) (cells c) h p q t)
+body-last v e f s a b c false r h p q t n = rw n (body-three v e f s (cells a) (cells b) bad h p q t)
+
 -- ---- the body read and checked
-pub load-refused : (v e f : ℕ) (s : List ℕ) (r : ℕ) (a b c : List ℤ) (x : List ℤ) (y z : List ℕ) → (r ≡ 0 → ⊥) → body_of v e f s ≡ said_body r a b c → load_of v e f s ≡ told r x y z
+pub load-refused : (v e f : ℕ) (s : List ℕ) (r : ℕ) (a b c : List ℤ) (x : List ℤ) (y z : List ℕ) → 0 < r → body_of v e f s ≡ said_body r a b c → load_of v e f s ≡ told r x y z
 unfolding load_of
-load-refused v e f s zero a b c x y z n h = absurd (n refl)
+load-refused v e f s zero a b c x y z n h = let o : ⊥ = omega arith in absurd o
 load-refused v e f s (suc r) a b c x y z n h = ap load_body h
 
-pub load-tables : (v e f : ℕ) (s : List ℕ) (r : ℕ) (a b c : List ℤ) (l : Loaded) → r ≡ 0 → body_of v e f s ≡ said_body r a b c → told (tables_refusal a b c) a (unsigned_all b) (unsigned_all c) ≡ l → load_of v e f s ≡ l
+pub load-tables : (v e f : ℕ) (s : List ℕ) (a b c : List ℤ) (l : Loaded) → body_of v e f s ≡ body a b c → told (tables_refusal a b c) a (unsigned_all b) (unsigned_all c) ≡ l → load_of v e f s ≡ l
 unfolding load_of
-load-tables v e f s zero a b c l n h t = ap load_body h ∙ t
-load-tables v e f s (suc r) a b c l n h t = let o : ⊥ = omega arith in absurd o
+load-tables v e f s a b c l h t = ap load_body h ∙ t
+
+-- ---- the counts
+-- a negative count is refused, as 0 is
+unsigned-refused : (v e f : ℤ) → counts_refused (pos (unsigned v)) (pos (unsigned e)) (pos (unsigned f)) ≡ counts_refused v e f
+unfolding counts_refused
+unsigned-refused (pos v) (pos e) (pos f) = refl
+unsigned-refused (pos v) (pos e) (negsuc f) = refl
+unsigned-refused (pos v) (negsuc e) f = grind arith
+unsigned-refused (negsuc v) e f = refl
+
+-- what the counts' maker says, in the words of line 1
+said-counts : (b : Bool) (r : Result KnownCounts Refusal) (v e f : ℕ) → refusal_of r ≡ cond b 4 0 → IfOk r (λ c. (c.vertices ≡ v) × ((c.half_edges ≡ e) × (c.faces ≡ f))) → head_says r ≡ cond b (Refused 4) (Counts v e f)
+said-counts true (Ok c) v e f n s = let o : ⊥ = omega arith in absurd o
+said-counts true (Err r) v e f n s = ap Refused n
+said-counts false (Ok c) v e f n s = rw (s.0, s.1.0, s.1.1)
+said-counts false (Err r) v e f n s = let p = number-positive r in let o : ⊥ = omega arith in absurd o
+
+pub counts-said : (r : Result KnownCounts Refusal) (v e f : ℤ) → refusal_of r ≡ cond (counts_refused (pos (unsigned v)) (pos (unsigned e)) (pos (unsigned f))) 4 0 → IfOk r (λ c. (c.vertices ≡ unsigned v) × ((c.half_edges ≡ unsigned e) × (c.faces ≡ unsigned f))) → head_says r ≡ counts_of v e f
+unfolding counts_of
+counts-said r v e f n s = said-counts (counts_refused v e f) r (unsigned v) (unsigned e) (unsigned f) (n ∙ rw (unsigned-refused v e f)) s

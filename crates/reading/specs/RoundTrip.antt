@@ -13,9 +13,8 @@ use Rattle.tables.specs.RoundTrip.{line_read, table-read, line-back, table-back,
 use Rattle.chart.specs.Tables.{rows, unsigned}
 use Rattle.ranges.specs.Ranges.{counts_refused}
 use Rattle.ranges.specs.Passed.{Counted, counts-pass, passed-positive}
-use Rattle.reading.specs.declared.Head.{Head}
-use Rattle.reading.specs.declared.Head.TheVariants.{Refused, Counts}
-use Rattle.reading.specs.Reading.{counts_of, head_line, head_length, head_of, file_length, Body, three, body_of, load_body, load_of, after_head, chart_in}
+use Rattle.reading.specs.Reading.Head.{Refused, Counts}
+use Rattle.reading.specs.Reading.{Head, counts_of, head_line, head_length, head_of, file_length, Body, three, body_of, load_body, load_of, after_head, chart_in}
 use Rattle.reading.specs.Reading.Body.{body, malformed}
 use Rattle.reading.specs.Laws.{head-counted}
 use Rattle.reading.specs.Text.{chart_text, numbers_after, numbers_in}

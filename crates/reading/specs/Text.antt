@@ -2,9 +2,8 @@
 use Rattle.std.specs.Prelude.{ℕ, List, [], ◌∷◌, ◌++◌, ℤ, pos, length}
 use Rattle.tables.specs.Text.{line_text, table_text}
 use Rattle.chart.specs.Tables.{rows}
-use Rattle.reading.specs.declared.Head.{Head}
-use Rattle.reading.specs.declared.Head.TheVariants.{Refused, Counts}
-use Rattle.reading.specs.Reading.{head_of, Body, body_of}
+use Rattle.reading.specs.Reading.Head.{Refused, Counts}
+use Rattle.reading.specs.Reading.{Head, head_of, Body, body_of}
 use Rattle.reading.specs.Reading.Body.{malformed}
 
 -- 01 "Chart text": "Line 1: counts of vertices, half-edges, faces. Then per vertex: ..; per half-edge: ..; per face: adjacent half-edge."

@@ -6,8 +6,8 @@ use Rattle.values.specs.Value.{Answer}
 use Rattle.charge.specs.Charging.{off_scale}
 use Rattle.charge.specs.Nearest.{on-scale}
 use Rattle.entries.specs.declared.Entry.{Entry}
-use Rattle.entries.specs.declared.Ruling.{Ruling}
-use Rattle.entries.specs.declared.Ruling.TheVariants.{Bend, Splice, Refused}
+use Rattle.entries.specs.Ruling.{Ruling}
+use Rattle.entries.specs.Ruling.Ruling.{Bend, Splice, Refused}
 use Rattle.entries.specs.Entry.{is_splice, unknown, place_in}
 use Rattle.entries.specs.Ruling.{meets17, with17}
 use Rattle.accounts.specs.Rulings.{Queries, charged, bend_ruling, entry_ruling}

@@ -13,8 +13,8 @@ use Rattle.checks.specs.Checks.{tables_refusal, Loaded}
 use Rattle.checks.specs.Checks.Loaded.{loaded, refused}
 use Rattle.checks.specs.Numbers.{of_tables}
 use Rattle.checks.proofs.Numbers.{tables-among}
-use Rattle.reading.specs.declared.Head.{Head}
-use Rattle.reading.specs.declared.Head.TheVariants as H
+use Rattle.reading.specs.Reading.{Head}
+use Rattle.reading.specs.Reading.{Head as H}
 use Rattle.reading.specs.Reading.{head_of, load_of, chart_in, refusal_of, chart_refusal_of}
 use Rattle.reading.specs.Text.{chart_text}
 use Rattle.reading.specs.Laws.{of_chart, head-among, load-among, chart-among}
@@ -35,7 +35,7 @@ use Rattle.writing.specs.Writing as S
 use Rattle.sites.specs.Insertion.{no_site, out_of_bounds, vertex_refusal, insert_refusal}
 use Rattle.inserting.specs.Inserting.{Inserts}
 use Rattle.book.specs.declared.Book.{Book}
-use Rattle.book.specs.declared.Returned.{Returned}
+use Rattle.book.specs.Returned.{Returned}
 use Rattle.book.specs.Books.{zero_book, bad_sections, bad_book}
 use Rattle.entries.specs.declared.Entry.{Entry}
 use Rattle.entries.specs.Entry.{place_in}

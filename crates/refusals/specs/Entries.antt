@@ -3,8 +3,8 @@ use Rattle.std.specs.Prelude.{◌≡◌, Bool, true, false, cond, List, [], ◌�
 use Rattle.whole.specs.Among.{among, within, among-within}
 use Rattle.values.specs.Value.{Answer}
 use Rattle.charge.specs.Charging.{charge_max}
-use Rattle.entries.specs.declared.Ruling.{Ruling}
-use Rattle.entries.specs.declared.Ruling.TheVariants.{Bend, Splice, Refused}
+use Rattle.entries.specs.Ruling.{Ruling}
+use Rattle.entries.specs.Ruling.Ruling.{Bend, Splice, Refused}
 
 -- 01's rows of an entry or query, of a location, of a charge and of the book, as far as an entry can meet them
 abbrev pub of_entry : List ℕ

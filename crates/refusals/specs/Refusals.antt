@@ -19,7 +19,7 @@ use Rattle.inserting.specs.Inserting.{InsertOf}
 use Rattle.book.specs.declared.Book.{Book}
 use Rattle.book.specs.Books.{fresh_book}
 use Rattle.entries.specs.declared.Entry.{Entry}
-use Rattle.entries.specs.declared.Ruling.TheVariants as R
+use Rattle.entries.specs.Ruling.{Ruling as R}
 use Rattle.entries.specs.Ruling.{with17}
 use Rattle.accounts.specs.Rulings.{entry_ruling}
 use Rattle.accounts.specs.Batch.{batch_of}

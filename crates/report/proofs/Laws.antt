@@ -1,5 +1,5 @@
 -- Laws of specs/: a column and a line at a time.
-use Prim.Native.Nat.{ℕ, suc, ◌+◌, ◌<◌}
+use Prim.Native.Nat.{ℕ, suc, ◌+◌, ◌≤◌, ◌<◌}
 use mathlib.Core.List.{List, [], ◌∷◌, ◌++◌, append_assoc, append-nil}
 use mathlib.Core.Path.{◌≡◌, refl, ap, sym, ◌∙◌}
 use native.Mathlib.Omega.{arith}
@@ -7,6 +7,10 @@ use native.Mathlib.Nat.{add-zero}
 use native.Mathlib.Numerals.{add-one}
 use lib.ListN.{length, take, get_or}
 use lib.Seq.{take-suc, length-take-le}
+use lib.IntN.{pos}
+use Rattle.text.specs.RoundTrip.{field-length}
+use Rattle.columns.specs.Printed.{printed}
+use Rattle.columns.specs.Laid.{laid, then-laid}
 use Rattle.report.specs.Lines.{answer_line, answer_lines, section_line, section_lines}
 
 -- One answer more at the end.
@@ -37,3 +41,8 @@ sections-none wear bends = refl
 pub sections-next : (wear bends : List ℕ) (k : ℕ) → section_lines wear bends (k + 1) ≡ section_lines wear bends k ++ section_line k (get_or wear k 0) (get_or bends k 0)
 unfolding section_lines
 sections-next wear bends k = rw (add-one k) refl
+
+-- ---- what is put right after a number
+pub after_number : {m : ℕ} {mid new : List ℕ} (w n at : ℕ) (old t : List ℕ) → (m ≡ at + w) × (mid ≡ laid old at (printed w n)) → at + w ≤ length old → new ≡ laid mid m t
+    → new ≡ laid old at (printed w n ++ t)
+after_number {m} {mid} {new} w n at old t p room e = then-laid old at (printed w n) t w m mid new (field-length w (pos n)) room p.0 p.1 e

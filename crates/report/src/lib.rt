@@ -59,10 +59,8 @@ fn put_answers(out: &mut [u8], answers: &[u64]) -> usize
     ensures { (result ≡ answer_bytes * length answers.now) × (out.new ≡ laid out.old 0 (answer_lines 1 answers.now)) }
 {
     let mut at = 0;
-    let mut i = 0;
-    while i < answers.len() {
-        at = put_answer(out, at, i as u64 + 1, answers[i]);
-        i += 1;
+    for (i, answer) in answers.iter().enumerate() {
+        at = put_answer(out, at, i as u64 + 1, *answer);
     }
     at
 }
@@ -72,13 +70,9 @@ fn put_sections(out: &mut [u8], from: usize, book: Book) -> usize
     requires { from + section_bytes * program_sections ≤ length out.old }
     ensures { (result ≡ from + section_bytes * program_sections) × (out.new ≡ laid out.old from (section_lines book.wear book.bends program_sections)) }
 {
-    let wear = book.wear;
-    let bends = book.bends;
     let mut at = from;
-    let mut s = 0;
-    while s < SECTIONS {
-        at = put_section(out, at, s as u64, wear[s], bends[s]);
-        s += 1;
+    for s in 0..SECTIONS {
+        at = put_section(out, at, s as u64, book.wear[s], book.bends[s]);
     }
     at
 }

@@ -1,3 +1,2 @@
 pub mod Tables
-pub mod Charts
-pub mod Grown
+pub mod Front

@@ -244,6 +244,10 @@ pub data Fits (es fs : List ℕ) : List Row → Type 0 where
   nil : Fits es fs []
   cons : {r : Row} {rs : List Row} → Within es r → r.face < length fs → Fits es fs rs → Fits es fs (r ∷ rs)
 
+-- the same as products
+abbrev pub Inside : List ℕ → List ℕ → Row → Type 0
+Inside es fs x = (x.key < rows es) × (x.next < rows es) × (x.prev < rows es) × (x.face < length fs)
+
 within_more : (es : List ℕ) (rs : List Row) (r : Row) → Within es r → Within (triangles_in es rs) r
 within_more es rs r w =
     let e : length es ≡ length (triangles_in es rs) = sym (length-triangles es rs) in

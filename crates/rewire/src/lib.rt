@@ -1,58 +1,72 @@
 // The operations of dcel_operations.rs on a chart's tables. Each writes whole triangles in.
 #![tactic(auto)]
 
-ghost use Rattle.std.specs.Prelude.{◌≡◌, ◌<◌, pos, length, set};
+ghost use Rattle.std.specs.Prelude.{◌≡◌, [], ◌∷◌, ◌+◌, ◌*◌, ◌<◌, pos, length, set, take, reverse, All};
+ghost use Rattle.geometry.specs.Grid.{at};
 ghost use Rattle.chart.specs.Tables.{rows, next_of, prev_of};
-ghost use Rattle.chart.specs.Chart.{chart_of, partner, InRange};
+ghost use Rattle.chart.specs.Chart.{partner, InRange};
+ghost use Rattle.chart.specs.Seen.{seen};
 ghost use Rattle.sound.specs.Sound.{Inner};
-ghost use Rattle.patches.specs.Rows.{row_from};
 ghost use Rattle.patches.specs.Wired.{Wired};
-ghost use Rattle.rewire.specs.Tables.{row_in, triangle_in, out_in, KeepsOuts, NewOut};
 ghost use Rattle.patches.specs.Flip.{flip_row, flipped};
-ghost use Rattle.patches.specs.Insert.{inserted};
-ghost use Rattle.patches.specs.Split.{split};
-ghost use Rattle.rewire.specs.Grown.{Room, old_of, row_of};
+ghost use Rattle.patches.specs.Insert.{insert_row₀, insert_row₁, insert_row₂, inserted};
+ghost use Rattle.patches.specs.Split.{split_row₀, split_row₁, split_row₂, split_row₃, split};
+ghost use Rattle.rewire.specs.Tables.{row_in, triangle_in, triangles_in, faces_in, out_in, Inside, KeepsOuts, NewOut};
+ghost use Rattle.rewire.specs.Front.{shown, Roomy, row_of};
 
-use geometry::Place;
+use chart::Chart;
+use geometry::GridPlace;
 use patches::Row;
+use ranges::Counts;
 
-// The row of half-edge h.
-fn put_half_edge(
-    edges: &mut [usize],
-    h: usize,
-    origin: usize,
-    next: usize,
-    prev: usize,
-    face: usize,
-)
-    requires { h < rows edges.old }
-    ensures { edges.new ≡ row_in edges.old h origin next prev face }
+// The tables of a chart, each in front of an array for the largest one; the counts say how far.
+#[derive(Drop)]
+pub struct Tables {
+    pub vertices: [i64; 512],
+    pub edges: [usize; 3024],
+    pub faces: [usize; 252],
+    pub counts: Counts,
+}
+
+// The row of a half-edge.
+#[tactic(auto, unfolding(crate::specs::Tables::row_in))]
+fn put_half_edge(edges: &mut [usize], r: Row)
+    requires { r.key < rows edges.old }
+    ensures { edges.new ≡ row_in edges.old r.key r.from r.next r.prev r.face }
 {
-    edges[h * 4] = origin;
-    edges[h * 4 + 1] = next;
-    edges[h * 4 + 2] = prev;
-    edges[h * 4 + 3] = face;
+    let at = r.key * 4;
+    edges[at] = r.from;
+    edges[at + 1] = r.next;
+    edges[at + 2] = r.prev;
+    edges[at + 3] = r.face;
 }
 
 // The three half-edges of a triangle, and its face.
+#[tactic(auto, unfolding(crate::specs::Tables::triangle_in))]
 pub fn put_triangle(edges: &mut [usize], faces: &mut [usize], r: Row)
-    requires { (r.key < rows edges.old) × (r.next < rows edges.old) × (r.prev < rows edges.old) × (r.face < length faces.old) }
-    ensures { (edges.new ≡ triangle_in edges.old r) × (faces.new ≡ set faces.old r.face r.key) }
+    requires { Inside edges.old faces.old r }
+    ensures edges { edges.new ≡ triangle_in edges.old r }
+    ensures faces { faces.new ≡ set faces.old r.face r.key }
 {
-    let x = r.key;
-    let y = r.next;
-    let z = r.prev;
-    let f = r.face;
-    let a = r.from;
-    let b = r.to;
-    let c = r.apex;
-    put_half_edge(edges, z, c, x, y, f);
-    put_half_edge(edges, y, b, z, x, f);
-    put_half_edge(edges, x, a, y, z, f);
-    faces[f] = x;
+    put_half_edge(edges, r.turn().turn());
+    put_half_edge(edges, r.turn());
+    put_half_edge(edges, r);
+    faces[r.face] = r.key;
+}
+
+// Triangles, one after the other.
+fn put_triangles(edges: &mut [usize], faces: &mut [usize], triangles: &[Row])
+    requires { All (Inside edges.old faces.old) triangles.now }
+    ensures edges { edges.new ≡ triangles_in edges.old (reverse triangles.now) }
+    ensures faces { faces.new ≡ faces_in faces.old (reverse triangles.now) }
+{
+    for r in triangles {
+        put_triangle(edges, faces, *r);
+    }
 }
 
 // The out half-edge of vertex v.
+#[tactic(auto, unfolding(crate::specs::Tables::out_in))]
 pub fn set_out(vertices: &mut [i64], v: usize, h: usize)
     requires { (v < rows vertices.old) × (h < 9223372036854775807) }
     ensures { vertices.new ≡ out_in vertices.old v h }
@@ -60,61 +74,17 @@ pub fn set_out(vertices: &mut [i64], v: usize, h: usize)
     vertices[v * 4 + 3] = h as i64;
 }
 
-// The triangle on half-edge e, whose partner is t, once the edge is turned about.
-fn flip_row(vertices: &[i64], edges: &[usize], faces: &[usize], e: usize, t: usize) -> Row
-    requires fact_1 { InRange (chart_of vertices.now edges.now faces.now) }
-    requires fact_2 { (e < rows edges.now) × (t < rows edges.now) }
-    ensures { result ≡ flip_row (chart_of vertices.now edges.now faces.now) e t }
+// The row of vertex v.
+#[tactic(auto, unfolding(crate::specs::Tables::row_in))]
+fn put_vertex(vertices: &mut [i64], v: usize, q: GridPlace, value: i64, out: usize)
+    requires { (v < rows vertices.old) × (out < 9223372036854775807) }
+    ensures { vertices.new ≡ row_in vertices.old v q.x q.y value (pos out) }
 {
-    let ep = chart::prev_of(edges, e);
-    let tp = chart::prev_of(edges, t);
-    Row {
-        key: e,
-        next: tp,
-        prev: chart::next_of(edges, e),
-        face: chart::face_of(edges, e),
-        from: chart::origin_of(edges, ep),
-        to: chart::origin_of(edges, tp),
-        apex: chart::origin_of(edges, t),
-    }
-}
-
-// Turns the edge of half-edge e about: it then joins the two corners across (`flip_cw`).
-pub fn flip_cw(vertices: &mut [i64], edges: &mut [usize], faces: &mut [usize], e: usize)
-    requires fact_1 { InRange (chart_of vertices.old edges.old faces.old) }
-    requires fact_2 { e < rows edges.old }
-    ensures { (chart_of vertices.new edges.new faces.new ≡ flipped (chart_of vertices.old edges.old faces.old) e) × (KeepsOuts vertices.old vertices.new) }
-{
-    let t = chart::partner_of(e);
-    let first = flip_row(vertices, edges, faces, e, t);
-    let second = flip_row(vertices, edges, faces, t, e);
-    put_triangle(edges, faces, second);
-    put_triangle(edges, faces, first);
-    set_out(vertices, second.apex, second.prev);
-    set_out(vertices, first.apex, first.prev);
-}
-
-// A row, by its numbers.
-fn triangle(
-    key: usize,
-    next: usize,
-    prev: usize,
-    face: usize,
-    from: usize,
-    to: usize,
-    apex: usize,
-) -> Row
-    ensures { result ≡ row_from key next prev face from to apex }
-{
-    Row {
-        key,
-        next,
-        prev,
-        face,
-        from,
-        to,
-        apex,
-    }
+    let at = v * 4;
+    vertices[at] = q.x;
+    vertices[at + 1] = q.y;
+    vertices[at + 2] = value;
+    vertices[at + 3] = out as i64;
 }
 
 // The row of half-edge h as it stands.
@@ -122,89 +92,191 @@ fn row_of(edges: &[usize], h: usize) -> Row
     requires { (h < rows edges.now) × (next_of edges.now h < rows edges.now) × (prev_of edges.now h < rows edges.now) }
     ensures { result ≡ row_of edges.now h }
 {
-    let y = chart::next_of(edges, h);
-    let z = chart::prev_of(edges, h);
+    let next = chart::next_of(edges, h);
+    let prev = chart::prev_of(edges, h);
     Row {
         key: h,
-        next: y,
-        prev: z,
+        next,
+        prev,
         face: chart::face_of(edges, h),
         from: chart::origin_of(edges, h),
-        to: chart::origin_of(edges, y),
-        apex: chart::origin_of(edges, z),
+        to: chart::origin_of(edges, next),
+        apex: chart::origin_of(edges, prev),
     }
 }
 
-// The row of vertex v.
-fn put_vertex(vertices: &mut [i64], v: usize, q: Place, value: i64, out: usize)
-    requires { (v < rows vertices.old) × (out < 9223372036854775807) }
-    ensures { vertices.new ≡ row_in vertices.old v q.x q.y value (pos out) }
+// The triangle on half-edge e, whose partner is t, once the edge is turned about.
+fn flip_row(chart: &Chart, e: usize, t: usize) -> Row
+    requires e_below { e < (seen chart.now).half_edges }
+    requires t_below { t < (seen chart.now).half_edges }
+    ensures { result ≡ flip_row (seen chart.now) e t }
 {
-    let x = q.x;
-    let y = q.y;
-    vertices[v * 4] = x;
-    vertices[v * 4 + 1] = y;
-    vertices[v * 4 + 2] = value;
-    vertices[v * 4 + 3] = out as i64;
+    Row {
+        key: e,
+        next: chart.prev(t),
+        prev: chart.next(e),
+        face: chart.face(e),
+        from: chart.origin(chart.prev(e)),
+        to: chart.origin(chart.prev(t)),
+        apex: chart.origin(t),
+    }
 }
 
-// Divides the face of half-edge e in three about a new vertex at q (`insert_into_triangle`). The tables hold a chart of n vertices, h half-edges and
-// f faces, with room behind for what is new.
-pub fn insert_into_triangle(
-    vertices: &mut [i64],
-    edges: &mut [usize],
-    faces: &mut [usize],
-    n: usize,
-    h: usize,
-    f: usize,
-    e: usize,
-    q: Place,
-    value: i64,
-)
-    requires fact_1 { Room vertices.old edges.old faces.old n h f }
-    requires fact_2 { Wired (old_of vertices.old edges.old faces.old n h f) }
-    requires fact_3 { Inner (old_of vertices.old edges.old faces.old n h f) e }
-    ensures { (chart_of vertices.new edges.new faces.new ≡ inserted (old_of vertices.old edges.old faces.old n h f) e q value) × (NewOut n vertices.old vertices.new) }
+// The triangles that replace r about a new vertex, in a chart with these counts: the vertex is across each of r's half-edges.
+fn insert_rows(r: Row, counts: Counts) -> [Row; 3]
+    ensures { result ≡ insert_row₂ r counts.vertices counts.half_edges counts.faces ∷ insert_row₁ r counts.vertices counts.half_edges counts.faces ∷ insert_row₀ r counts.vertices counts.half_edges ∷ [] }
 {
-    let r = row_of(edges, e);
-    let third = triangle(r.prev, h + 4, h + 3, f + 1, r.apex, r.from, n);
-    let second = triangle(r.next, h + 2, h + 1, f, r.to, r.apex, n);
-    let first = triangle(r.key, h, h + 5, r.face, r.from, r.to, n);
-    put_triangle(edges, faces, third);
-    put_triangle(edges, faces, second);
-    put_triangle(edges, faces, first);
-    put_vertex(vertices, n, q, value, h + 1);
+    let Counts {
+        vertices: n,
+        half_edges: h,
+        faces: f,
+    } = counts;
+    let onward = r.turn();
+    let back = onward.turn();
+    [
+        Row {
+            next: h + 4,
+            prev: h + 3,
+            face: f + 1,
+            apex: n,
+            ..back
+        },
+        Row {
+            next: h + 2,
+            prev: h + 1,
+            face: f,
+            apex: n,
+            ..onward
+        },
+        Row {
+            next: h,
+            prev: h + 5,
+            apex: n,
+            ..r
+        },
+    ]
 }
 
-// Divides the two faces at half-edge e in four about a new vertex at q on it (`split_edge`). Tables as above.
-pub fn split_edge(
-    vertices: &mut [i64],
-    edges: &mut [usize],
-    faces: &mut [usize],
-    n: usize,
-    h: usize,
-    f: usize,
-    e: usize,
-    q: Place,
-    value: i64,
-)
-    requires fact_1 { Room vertices.old edges.old faces.old n h f }
-    requires fact_2 { Wired (old_of vertices.old edges.old faces.old n h f) }
-    requires fact_3 { Inner (old_of vertices.old edges.old faces.old n h f) e }
-    requires fact_4 { Inner (old_of vertices.old edges.old faces.old n h f) (partner e) }
-    ensures { (chart_of vertices.new edges.new faces.new ≡ split (old_of vertices.old edges.old faces.old n h f) e q value) × (NewOut n vertices.old vertices.new) }
+// The triangles that replace r and s, on both sides of an edge, about a new vertex on it.
+fn split_rows(r: Row, s: Row, counts: Counts) -> [Row; 4]
+    ensures { result ≡ split_row₃ r s counts.vertices counts.half_edges counts.faces ∷ split_row₂ s counts.vertices counts.half_edges counts.faces ∷ split_row₁ r s counts.vertices counts.half_edges ∷ split_row₀ r counts.vertices counts.half_edges ∷ [] }
 {
-    let t = chart::partner_of(e);
-    let r = row_of(edges, e);
-    let s = row_of(edges, t);
-    let fourth = triangle(h + 4, h + 3, r.next, f + 1, r.apex, n, s.from);
-    let third = triangle(h + 2, h + 1, s.prev, f, s.from, n, s.apex);
-    let second = triangle(h, s.key, s.next, s.face, s.apex, n, r.from);
-    let first = triangle(r.key, h + 5, r.prev, r.face, r.from, n, r.apex);
-    put_triangle(edges, faces, fourth);
-    put_triangle(edges, faces, third);
-    put_triangle(edges, faces, second);
-    put_triangle(edges, faces, first);
-    put_vertex(vertices, n, q, value, t);
-    set_out(vertices, s.from, h + 2);
+    let Counts {
+        vertices: n,
+        half_edges: h,
+        faces: f,
+    } = counts;
+    let back = r.turn().turn();
+    let far = s.turn().turn();
+    [
+        Row {
+            key: h + 4,
+            next: h + 3,
+            face: f + 1,
+            to: n,
+            apex: s.from,
+            ..back
+        },
+        Row {
+            key: h + 2,
+            next: h + 1,
+            face: f,
+            to: n,
+            ..s
+        },
+        Row {
+            key: h,
+            to: n,
+            apex: r.from,
+            ..far
+        },
+        Row {
+            next: h + 5,
+            to: n,
+            ..r
+        },
+    ]
+}
+
+// The counts with a vertex more: it adds six half-edges and two faces.
+fn grown_counts(counts: Counts) -> Counts
+    requires { Roomy counts }
+    ensures vertices { result.vertices ≡ counts.vertices + 1 }
+    ensures half_edges { result.half_edges ≡ counts.half_edges + 6 }
+    ensures faces { result.faces ≡ counts.faces + 2 }
+{
+    Counts {
+        vertices: counts.vertices + 1,
+        half_edges: counts.half_edges + 6,
+        faces: counts.faces + 2,
+    }
+}
+
+impl Tables {
+    // The chart that they hold.
+    pub fn chart(&self) -> Chart<'_>
+        requires { InRange (shown self.now) }
+        ensures shown { seen result ≡ shown self.now }
+        ensures front { result.vertices.now ≡ take (4 * self.now.counts.vertices) self.now.vertices }
+        ensures vertex_rows { length result.vertices.now ≡ 4 * self.now.counts.vertices }
+        ensures edge_rows { length result.edges.now ≡ 4 * self.now.counts.half_edges }
+    {
+        let a = 4 * self.counts.vertices;
+        let b = 4 * self.counts.half_edges;
+        Chart {
+            vertices: &self.vertices[..a],
+            edges: &self.edges[..b],
+            faces: &self.faces[..self.counts.faces],
+        }
+    }
+
+    // Turns the edge of half-edge e about: it then joins the two corners across.
+    pub fn flip_cw(&mut self, e: usize)
+        requires in_range { InRange (shown self.old) }
+        requires e_below { e < (shown self.old).half_edges }
+        ensures flipped { shown self.new ≡ flipped (shown self.old) e }
+        ensures outs { KeepsOuts self.old.vertices self.new.vertices }
+    {
+        let chart = self.chart();
+        let t = chart.partner(e);
+        let first = flip_row(&chart, e, t);
+        let second = flip_row(&chart, t, e);
+        put_triangles(&mut self.edges, &mut self.faces, &[second, first]);
+        set_out(&mut self.vertices, second.apex, second.prev);
+        set_out(&mut self.vertices, first.apex, first.prev);
+    }
+
+    // Divides the face of half-edge e in three about a new vertex at q.
+    pub fn insert_into_triangle(&mut self, e: usize, q: GridPlace, value: i64)
+        requires room { Roomy self.old.counts }
+        requires wired { Wired (shown self.old) }
+        requires inner { Inner (shown self.old) e }
+        ensures inserted { shown self.new ≡ inserted (shown self.old) e (at q) value }
+        ensures outs { NewOut self.old.counts.vertices self.old.vertices self.new.vertices }
+    {
+        let rows = insert_rows(row_of(&self.edges, e), self.counts);
+        put_triangles(&mut self.edges, &mut self.faces, &rows);
+        let out = self.counts.half_edges + 1;
+        put_vertex(&mut self.vertices, self.counts.vertices, q, value, out);
+        self.counts = grown_counts(self.counts);
+    }
+
+    // Divides the two faces at half-edge e in four about a new vertex at q on it.
+    pub fn split_edge(&mut self, e: usize, q: GridPlace, value: i64)
+        requires room { Roomy self.old.counts }
+        requires wired { Wired (shown self.old) }
+        requires inner { Inner (shown self.old) e }
+        requires beyond { Inner (shown self.old) (partner e) }
+        ensures split { shown self.new ≡ split (shown self.old) e (at q) value }
+        ensures outs { NewOut self.old.counts.vertices self.old.vertices self.new.vertices }
+    {
+        let t = chart::partner_of(e);
+        let r = row_of(&self.edges, e);
+        let s = row_of(&self.edges, t);
+        let rows = split_rows(r, s, self.counts);
+        put_triangles(&mut self.edges, &mut self.faces, &rows);
+        put_vertex(&mut self.vertices, self.counts.vertices, q, value, t);
+        set_out(&mut self.vertices, s.from, self.counts.half_edges + 2);
+        self.counts = grown_counts(self.counts);
+    }
 }

@@ -9,7 +9,7 @@ use Rattle.ranges.specs.Ranges.{counts_refused, not_below, bad_vertex, bad_half_
 use Rattle.links.specs.Links.{linked, links_broken}
 use Rattle.checks.specs.Checks.{chart_refusal, tables_refusal}
 use Rattle.checks.specs.Checks.Loaded.{loaded}
-use Rattle.reading.specs.declared.Head.TheVariants.{Counts}
+use Rattle.reading.specs.Reading.Head.{Counts}
 use Rattle.reading.specs.Reading.{counts_of, head_of, body_of, load_of, chart_in, chart_refusal_of}
 use Rattle.triangle.specs.TriangleA.{file_a, vertices_a, edges_a, faces_a}
 

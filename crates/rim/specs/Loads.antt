@@ -18,7 +18,8 @@ use Rattle.reading.specs.Reading.{counts_of, head_of, body_of, load_of, chart_in
 use Rattle.locate.specs.declared.Location.TheVariants.{OnVertex, OnEdge, OnFace, OutsideOfConvexHull}
 use Rattle.locate.specs.Location.{location_of}
 use Rattle.neighbors.specs.Neighbors.{edge_neighbors, neighbors_of}
-use Rattle.weights.specs.Barycentric.{Weighted, two_point_interpolation, barycentric_interpolation, weigh_two, weigh_three}
+use Rattle.weights.specs.declared.Weighted.{Weighted}
+use Rattle.weights.specs.Barycentric.{two_point_interpolation, barycentric_interpolation, weigh_two, weigh_three}
 use Rattle.weights.specs.Barycentric.Weights.{weights}
 use Rattle.charge.specs.Charging.{charge_of}
 use Rattle.charge.specs.Charging.{Cost as C}

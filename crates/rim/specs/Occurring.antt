@@ -20,8 +20,8 @@ use Rattle.gradient.specs.Gradient.{normal_of, add_normal, gradient_from}
 use Rattle.gradient.specs.Turn.{turn, over_pairs}
 use Rattle.interpolate.specs.Values.{sum_from, blend_on, blended, blend_from}
 use Rattle.values.specs.Value.{located_value, value_on}
-use Rattle.entries.specs.declared.Ruling.{Ruling}
-use Rattle.entries.specs.declared.Ruling.TheVariants.{Bend, Splice, Refused}
+use Rattle.entries.specs.Ruling.{Ruling}
+use Rattle.entries.specs.Ruling.Ruling.{Bend, Splice, Refused}
 use Rattle.entries.specs.Ruling.{with17}
 use Rattle.accounts.specs.Rulings.{entry_ruling}
 use Rattle.estivolh.specs.Account.{queries}

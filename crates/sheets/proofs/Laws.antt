@@ -1,12 +1,7 @@
 -- A field and a line at a time: what is put and what remains, one after the other, are the whole.
-use Prim.Native.Nat.{ℕ, suc, ◌+◌, ◌-◌, ◌*◌, ◌≤◌, ◌<◌}
-use mathlib.Core.List.{List, [], ◌∷◌, ◌++◌}
-use mathlib.Core.Path.{◌≡◌, refl, ap, sym, ◌∙◌}
-use native.Mathlib.Omega.{arith}
-use native.Mathlib.Numerals.{add-one}
-use lib.IntN.{ℤ, pos}
-use lib.ListN.{length, take, drop, get_or, length-drop}
-use lib.Seq.{drop-cons, drop-drop, drop-length, length-take-le}
+use Rattle.std.specs.Prelude.{ℕ, suc, ◌+◌, ◌-◌, ◌*◌, ◌≤◌, ◌<◌, List, [], ◌∷◌, ◌++◌, ◌≡◌, ℤ, pos, length, take, drop, get_or}
+use Rattle.std.proofs.Common.{refl, ap, sym, ◌∙◌, arith, add-one, mul-suc, mul-le-mul_left, subst, length-drop, drop-cons, drop-drop, length-take-le}
+use lib.Seq.{drop-length}
 use Rattle.text.specs.Field.{field_width, field_text}
 use Rattle.text.specs.RoundTrip.{field-length}
 use Rattle.tables.specs.Table.{line_bytes}
@@ -30,30 +25,43 @@ line-next row j old mid at end h room e p =
     ∙ ap (λ (t : List ℕ). laid old at t) (line-by z (drop (j + 1) row) (drop j row) (drop-cons row j (pos 0) h ∙ ap (λ (k : ℕ). z ∷ drop k row) (sym (add-one j))))
 
 -- no field is left
-pub line-ends : (row : List ℤ) (j : ℕ) → j ≡ length row → 10 ∷ [] ≡ line_text (drop j row)
+line-ends : (row : List ℤ) (j : ℕ) → j ≡ length row → 10 ∷ [] ≡ line_text (drop j row)
 unfolding line_text
 line-ends row j e = rw (e, drop-length row) refl
 
--- the part of a table that a line is
-pub part-is : (cells : List ℤ) (from w : ℕ) → take (from + w - from) (drop from cells) ≡ take w (drop from cells)
-part-is cells from w = let e : from + w - from ≡ w = omega arith in ap (λ (k : ℕ). take k (drop from cells)) e
-
-pub part-long : (cells : List ℤ) (from w : ℕ) → from + w ≤ length cells → length (take w (drop from cells)) ≡ w
-part-long cells from w h = length-take-le w (drop from cells) (simp length-drop (omega arith))
+pub line-last : (row : List ℤ) (j : ℕ) (out : List ℕ) (at : ℕ) → j ≡ length row → laid out (at + field_width * length row) (10 ∷ []) ≡ laid out (at + field_width * j) (line_text (drop j row))
+line-last row j out at e = rw e (ap (λ (t : List ℕ). laid out (at + field_width * length row) t) (line-ends row (length row) refl))
 
 table-by : (w k : ℕ) (l : List ℤ) (n : ℕ) → n ≡ suc k → line_text (take w l) ++ table_text w k (drop w l) ≡ table_text w n l
 unfolding table_text
 table-by w k l n e = rw e refl
 
+-- line i of n is within them
+row-in : (w n i : ℕ) → i < n → w * i + w ≤ w * n
+row-in w n i h = subst (λ (k : ℕ). k ≤ w * n) (mul-suc w i) (mul-le-mul_left w h)
+
+-- the part of a table that line i is
+pub part-is : (cells : List ℤ) (w i : ℕ) → take (w * i + w - w * i) (drop (w * i) cells) ≡ take w (drop (w * i) cells)
+part-is cells w i = let e : w * i + w - w * i ≡ w = omega arith in ap (λ (k : ℕ). take k (drop (w * i) cells)) e
+
+pub part-long : (cells : List ℤ) (w n i : ℕ) → i < n → length cells ≡ w * n → length (take w (drop (w * i) cells)) ≡ w
+part-long cells w n i h l = length-take-le w (drop (w * i) cells) (simp length-drop (omega (arith, row-in w n i h)))
+
 -- a line more of a table
-pub table-next : (w n i : ℕ) (cells : List ℤ) (from : ℕ) (old mid : List ℕ) (at end : ℕ) → i < n → length (take w (drop from cells)) ≡ w → at + line_bytes w ≤ length old → end ≡ at + line_bytes w
-    → mid ≡ laid old at (line_text (take w (drop from cells))) → laid mid end (table_text w (n - (i + 1)) (drop (from + w) cells)) ≡ laid old at (table_text w (n - i) (drop from cells))
-table-next w n i cells from old mid at end h l room e p =
+pub table-next : (w n i : ℕ) (cells : List ℤ) (old mid : List ℕ) (at : ℕ) → i < n → length cells ≡ w * n → at + line_bytes w * n ≤ length old
+    → mid ≡ laid old (at + line_bytes w * i) (line_text (take (w * i + w - w * i) (drop (w * i) cells)))
+    → laid mid (at + line_bytes w * (i + 1)) (table_text w (n - (i + 1)) (drop (w * (i + 1)) cells)) ≡ laid old (at + line_bytes w * i) (table_text w (n - i) (drop (w * i) cells))
+table-next w n i cells old mid at h l room p =
+    let from = w * i in
     let row = take w (drop from cells) in
     let k = n - (i + 1) in
-    then-laid old at (line_text row) (table_text w k (drop (from + w) cells)) (line_bytes w) end mid _ (line-bytes row ∙ ap line_bytes l) room e p refl
-    ∙ ap (λ (t : List ℕ). laid old at t)
-    (ap (λ (m : List ℤ). line_text row ++ table_text w k m) (sym (drop-drop w from cells)) ∙ table-by w k (drop from cells) (n - i) (omega arith))
+    let m = at + line_bytes w * i in
+    let next : w * (i + 1) ≡ from + w = rw (add-one i) (mul-suc w i) in
+    let end : at + line_bytes w * (i + 1) ≡ m + line_bytes w = omega (arith, mul-suc (line_bytes w) i) in
+    then-laid old m (line_text row) (table_text w k (drop (w * (i + 1)) cells)) (line_bytes w) (at + line_bytes w * (i + 1)) mid _
+    (line-bytes row ∙ ap line_bytes (part-long cells w n i h l)) (omega (arith, row-in (line_bytes w) n i h)) end (rw part-is at p) refl
+    ∙ ap (λ (t : List ℕ). laid old m t)
+    (ap (λ (q : List ℤ). line_text row ++ table_text w k q) (ap (λ (q : ℕ). drop q cells) next ∙ sym (drop-drop w from cells)) ∙ table-by w k (drop from cells) (n - i) (omega arith))
 
 -- no line is left
 pub table-ends : (w n i : ℕ) (l : List ℤ) → i ≡ n → table_text w (n - i) l ≡ []

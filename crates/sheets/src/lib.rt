@@ -2,7 +2,7 @@
 #![tactic(auto)]
 
 ghost use Rattle.std.specs.Prelude.{◌≡◌, ◌+◌, ◌*◌, ◌≤◌, length};
-ghost use Rattle.tables.specs.Table.{line_bytes};
+ghost use Rattle.tables.specs.Table.{fields_max, line_bytes};
 ghost use Rattle.tables.specs.Text.{line_text, table_text};
 ghost use Rattle.chart.specs.Tables.{rows};
 ghost use Rattle.ranges.specs.Passed.{Counted};
@@ -17,37 +17,31 @@ fn put_line(row: &[i64], out: &mut [u8], at: usize) -> usize
     requires { at + line_bytes (length row.now) ≤ length out.old }
     ensures { (result ≡ at + line_bytes (length row.now)) × (out.new ≡ laid out.old at (line_text row.now)) }
 {
-    let mut end = at;
-    let mut j = 0;
-    while j < row.len() {
-        end = columns::put_field(out, end, COLUMNS, row[j]);
-        j += 1;
+    for (j, z) in row.iter().enumerate() {
+        columns::put_field(out, at + COLUMNS * j, COLUMNS, *z);
     }
-    columns::put_line_end(out, end)
+    columns::put_line_end(out, at + COLUMNS * row.len())
 }
 
-// `n` lines of `w` numbers from `at`.
+// `n` lines of `w` numbers from `at`. A line's place in the text is told by its number, so this goes over the numbers and not over `chunks_exact`.
 fn put_table(cells: &[i64], w: usize, n: usize, out: &mut [u8], at: usize) -> usize
-    requires { (length cells.now ≡ w * n) × (at + line_bytes w * n ≤ length out.old) }
+    requires w_bound { w ≤ fields_max }
+    requires room { (length cells.now ≡ w * n) × (at + line_bytes w * n ≤ length out.old) }
     ensures { (result ≡ at + line_bytes w * n) × (out.new ≡ laid out.old at (table_text w n cells.now)) }
 {
-    let mut end = at;
-    let mut from = 0;
-    let mut i = 0;
-    while i < n {
-        let to = from + w;
-        end = put_line(&cells[from..to], out, end);
-        from = to;
-        i += 1;
+    let bytes = COLUMNS * w + 1;
+    for i in 0..n {
+        let from = w * i;
+        put_line(&cells[from..from + w], out, at + bytes * i);
     }
-    end
+    at + bytes * n
 }
 
 // The text of three tables: line 1 with the counts, then a line for each vertex, half-edge and face.
 pub fn put_chart(vertices: &[i64], edges: &[i64], faces: &[i64], out: &mut [u8]) -> usize
     requires counted { Counted (rows vertices.now) (rows edges.now) (length faces.now) }
-    requires vertices_len { (length vertices.now ≡ 4 * rows vertices.now) × (length edges.now ≡ 4 * rows edges.now) }
-    requires faces_in_bounds { file_length (rows vertices.now) (rows edges.now) (length faces.now) ≤ length out.old }
+    requires whole_rows { (length vertices.now ≡ 4 * rows vertices.now) × (length edges.now ≡ 4 * rows edges.now) }
+    requires room { file_length (rows vertices.now) (rows edges.now) (length faces.now) ≤ length out.old }
     ensures { (result ≡ length (chart_text vertices.now edges.now faces.now)) × (out.new ≡ laid out.old 0 (chart_text vertices.now edges.now faces.now)) }
 {
     let v = vertices.len() / 4;

@@ -1,7 +1,6 @@
 -- Where a new vertex goes in, from the location of its place, and what holds there. Assumes nothing.
-use Rattle.std.specs.Prelude.{◌≡◌, refl, Bool, ℕ, ◌<◌}
-use Rattle.std.proofs.Math.Path.{sym, subst, ap}
-use Rattle.std.proofs.Common.{◌∙◌}
+use Rattle.std.specs.Prelude.{◌≡◌, refl, Result, Ok, Err, Bool, ℕ, ◌<◌}
+use Rattle.std.proofs.Math.Path.{subst}
 use Rattle.std.proofs.Math.Bool.{true, false, cond}
 use Rattle.std.proofs.lemmas.Bool.{eqb-false}
 use Rattle.whole.specs.Bools.{or-false, and-true, never}
@@ -11,6 +10,9 @@ use Rattle.geometry.specs.declared.Place.{Place}
 use Rattle.geometry.specs.Plane.{side}
 use Rattle.chart.specs.Chart.{Chart, partner, outer, partner-in}
 use Rattle.sound.specs.Sound.{Inner}
+use Rattle.refusal.specs.declared.Refusal.{Refusal}
+use Rattle.refusal.specs.declared.Refusal.TheVariants.{NoSite}
+use Rattle.refusal.specs.Number.{refusal_of}
 use Rattle.accepted.specs.Accepted.{Accepted}
 use Rattle.locate.specs.declared.Location.{Location}
 use Rattle.locate.specs.declared.Location.TheVariants.{OnVertex, OnEdge, OnFace, OutsideOfConvexHull}
@@ -22,18 +24,18 @@ use Rattle.nearby.specs.Chart as Ch
 use Rattle.home.specs.Home.{held_of}
 use Rattle.home.specs.Facts.{edge_to, face-to}
 use Rattle.sites.specs.declared.Site.{Site}
-use Rattle.sites.specs.declared.Site.TheVariants.{Inside, Across, Nowhere}
+use Rattle.sites.specs.declared.Site.TheVariants.{Inside, Across}
 use Rattle.sites.specs.Insertion.{no_site}
 
--- by the location
-unfoldable pub site_of : Chart → Location → Site
-site_of c (OnVertex v) = Nowhere
-site_of c (OnEdge h) = cond (part_of_convex_hull c h) Nowhere (Across h)
-site_of c (OnFace f) = Inside (c.adjacent f)
-site_of c (OutsideOfConvexHull h) = Nowhere
+-- by the location; 26 on a vertex, on a hull edge and outside
+unfoldable pub site_of : Chart → Location → Result Site Refusal
+site_of c (OnVertex v) = Err NoSite
+site_of c (OnEdge h) = cond (part_of_convex_hull c h) (Err NoSite) (Ok (Across h))
+site_of c (OnFace f) = Ok (Inside (c.adjacent f))
+site_of c (OutsideOfConvexHull h) = Err NoSite
 
 -- by the place
-unfoldable pub site_at : Chart → Place → Site
+unfoldable pub site_at : Chart → Place → Result Site Refusal
 site_at c q = site_of c (location_of c q)
 
 -- ---- strictly inside the face of e
@@ -75,81 +77,45 @@ edge-facts c a q h l t e =
 
 -- ---- what each site says
 module _ (c : Chart) (a : Accepted c) (q : Place) where
-  pub face-site : (e : ℕ) → site_at c q ≡ Inside e → FaceSite c q e
+  pub face-site : (e : ℕ) → site_at c q ≡ Ok (Inside e) → FaceSite c q e
   unfolding site_at site_of
   face-site e s = by (location_of c q) (located c q (location_of c q) refl) s
     where
-      edge : (b : Bool) (h : ℕ) → cond b Nowhere (Across h) ≡ Inside e → FaceSite c q e
+      edge : (b : Bool) (h : ℕ) → cond b (Err NoSite) (Ok (Across h)) ≡ Ok (Inside e) → FaceSite c q e
       edge true h k = never (cc)
       edge false h k = never (cc)
 
-      by : (l : Location) → Holds c q l → site_of c l ≡ Inside e → FaceSite c q e
+      by : (l : Location) → Holds c q l → site_of c l ≡ Ok (Inside e) → FaceSite c q e
       by (OnVertex v) h k = never (cc)
       by (OnEdge g) h k = edge (part_of_convex_hull c g) g k
       by (OnFace f) h k = let p : c.adjacent f ≡ e = cc in subst (FaceSite c q) p (face-facts c a q f h)
       by (OutsideOfConvexHull g) h k = never (cc)
 
-  pub edge-site : (e : ℕ) → site_at c q ≡ Across e → EdgeSite c q e
+  pub edge-site : (e : ℕ) → site_at c q ≡ Ok (Across e) → EdgeSite c q e
   unfolding site_at site_of
   edge-site e s = by (location_of c q) (located c q (location_of c q) refl) s
     where
-      edge : (b : Bool) (h : ℕ) → part_of_convex_hull c h ≡ b → (h < c.half_edges) × (on_edge c q h ≡ true) → cond b Nowhere (Across h) ≡ Across e → EdgeSite c q e
+      edge : (b : Bool) (h : ℕ) → part_of_convex_hull c h ≡ b → (h < c.half_edges) × (on_edge c q h ≡ true) → cond b (Err NoSite) (Ok (Across h)) ≡ Ok (Across e) → EdgeSite c q e
       edge true h p x k = never (cc)
       edge false h p x k = let r : h ≡ e = cc in subst (EdgeSite c q) r (edge-facts c a q h x.0 x.1 p)
 
-      by : (l : Location) → Holds c q l → site_of c l ≡ Across e → EdgeSite c q e
+      by : (l : Location) → Holds c q l → site_of c l ≡ Ok (Across e) → EdgeSite c q e
       by (OnVertex v) h k = never (cc)
       by (OnEdge g) h k = edge (part_of_convex_hull c g) g refl (h.0, (and-true (even g) (on_edge c q g) h.1).1) k
       by (OnFace f) h k = never (cc)
       by (OutsideOfConvexHull g) h k = never (cc)
 
 -- ---- 26 is where there is no site
-abbrev pub without : Site → Bool
-without (Inside e) = false
-without (Across e) = false
-without Nowhere = true
-
-pub no-site : (c : Chart) (q : Place) → no_site c (location_of c q) ≡ without (site_at c q)
+pub no-site : (c : Chart) (q : Place) → cond (no_site c (location_of c q)) 26 0 ≡ refusal_of (site_at c q)
 unfolding site_at site_of
 no-site c q = by (location_of c q)
   where
-    edge : (b : Bool) (h : ℕ) → b ≡ without (cond b Nowhere (Across h))
+    edge : (b : Bool) (h : ℕ) → cond b 26 0 ≡ refusal_of (cond b (Err NoSite) (Ok (Across h)))
     edge true h = refl
     edge false h = refl
 
-    by : (l : Location) → no_site c l ≡ without (site_of c l)
+    by : (l : Location) → cond (no_site c l) 26 0 ≡ refusal_of (site_of c l)
     by (OnVertex v) = refl
     by (OnEdge h) = edge (part_of_convex_hull c h) h
     by (OnFace f) = refl
     by (OutsideOfConvexHull h) = refl
-
--- ---- the arms of the code
-module _ (c : Chart) (q : Place) (l : Location) (e : l ≡ location_of c q) where
-  at : {k : Location} → l ≡ k → location_of c q ≡ k
-  at p = sym e ∙ p
-
-  pub arm-edge-in : (h : ℕ) → l ≡ OnEdge h → h < c.half_edges
-  arm-edge-in h p = (located c q (OnEdge h) (sym (at p))).0
-
-  pub arm-face-in : (f : ℕ) → l ≡ OnFace f → f < c.faces
-  arm-face-in f p = (located c q (OnFace f) (sym (at p))).0
-
-  pub arm-vertex : (v : ℕ) → l ≡ OnVertex v → Nowhere ≡ site_at c q
-  unfolding site_at site_of
-  arm-vertex v p = sym (ap (site_of c) (at p))
-
-  pub arm-outside : (h : ℕ) → l ≡ OutsideOfConvexHull h → Nowhere ≡ site_at c q
-  unfolding site_at site_of
-  arm-outside h p = sym (ap (site_of c) (at p))
-
-  pub arm-hull : (h : ℕ) (b : Bool) → l ≡ OnEdge h → b ≡ part_of_convex_hull c h → b ≡ true → Nowhere ≡ site_at c q
-  unfolding site_at site_of
-  arm-hull h b p s t = sym (ap (site_of c) (at p) ∙ ap (λ (x : Bool). cond x Nowhere (Across h)) (sym s ∙ t))
-
-  pub arm-inner : (h : ℕ) (b : Bool) → l ≡ OnEdge h → b ≡ part_of_convex_hull c h → b ≡ false → Across h ≡ site_at c q
-  unfolding site_at site_of
-  arm-inner h b p s t = sym (ap (site_of c) (at p) ∙ ap (λ (x : Bool). cond x Nowhere (Across h)) (sym s ∙ t))
-
-  pub arm-face : (f g : ℕ) → l ≡ OnFace f → g ≡ c.adjacent f → Inside g ≡ site_at c q
-  unfolding site_at site_of
-  arm-face f g p s = ap Inside s ∙ sym (ap (site_of c) (at p))

@@ -9,7 +9,7 @@ use Rattle.query.specs.Location as L
 use Rattle.query.specs.Gradient as G
 use Rattle.query.specs.Natural as N
 use Rattle.charge.specs.Charging.{Cost}
-use Rattle.book.specs.declared.Returned.{Returned}
+use Rattle.book.specs.Returned.{Returned}
 use Rattle.accounts.specs.Batch.{overlay}
 use Rattle.writing.specs.Writing.{Written}
 use Rattle.slices.specs.Lent.{kept, Left}

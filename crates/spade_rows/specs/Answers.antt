@@ -20,7 +20,8 @@ use Rattle.faceset.specs.Set as S
 use Rattle.flips.specs.Search.{in_circle, should_flip, inspect, inspect_all}
 use Rattle.neighbors.specs.Neighbors.{finished, face_neighbors, inner_edge_neighbors, edge_neighbors, neighbors_of}
 use Rattle.points.specs.Points.{circumcenter_of}
-use Rattle.weights.specs.Barycentric.{Weighted, Weights, two_point_interpolation, barycentric_interpolation, weigh_two, weigh_three}
+use Rattle.weights.specs.declared.Weighted.{Weighted}
+use Rattle.weights.specs.Barycentric.{Weights, two_point_interpolation, barycentric_interpolation, weigh_two, weigh_three}
 use Rattle.turns.specs.Turn.{cell_corner, face_center, turn_from}
 use Rattle.natural.specs.Natural.{shares_from, shares_of, settled}
 use Rattle.gradient.specs.Gradient.{normal_of, add_normal, gradient_from}

@@ -1,11 +1,9 @@
 -- 02, CR 1: lines and tables that were read are the text of their numbers (`line_read`, `table-read`), and the text of numbers is read as these numbers
 -- (`line-back`, `table-back`). Assumes nothing.
-use Rattle.std.specs.Prelude.{ℕ, zero, suc, ◌+◌, ◌*◌, ◌≤◌, ◌<◌, List, [], ◌∷◌, ◌++◌, Bool, true, false, ◌≡◌, refl, length, take, drop, get_or, eqb, ℤ, pos}
+use Rattle.std.specs.Prelude.{ℕ, zero, suc, ◌+◌, ◌*◌, ◌≤◌, ◌<◌, List, [], ◌∷◌, ◌++◌, Bool, true, false, Option, Some, None, ◌≡◌, refl, length, take, drop, get_or, eqb, ℤ, pos}
 use Rattle.std.proofs.Common.{append_assoc, ap, sym, ◌∙◌, arith, mul-suc, mul-zero, length-drop, length-append, take-append-drop, take_at, drop_at, length-take-le, drop-drop, eqb-true}
 use Rattle.whole.specs.Bools.{never}
 use Rattle.text.specs.Field.{field_of, field_text, field_width}
-use Rattle.text.specs.declared.Field.{Field}
-use Rattle.text.specs.declared.Field.TheVariants.{Number, Malformed}
 use Rattle.text.specs.RoundTrip.{field-read, field-length, Fits}
 use Rattle.text.proofs.RoundTrip.{field_back}
 use Rattle.tables.specs.Table.{Cells, given, before, join, cell_of, line_of, line_bytes, table_of}
@@ -30,9 +28,9 @@ join_cells (cells l) c m e = let b = before-cells l m c e in (l, b.0, refl, b.1,
 join_cells bad c m e = never (cc)
 
 -- what a field holds is one number
-cell-number : (f : Field) (l : List ℤ) → cell_of f ≡ cells l → (z : ℤ) × (f ≡ Number z) × (l ≡ z ∷ [])
-cell-number (Number z) l e = (z, refl, cc)
-cell-number Malformed l e = never (cc)
+cell-number : (f : Option ℤ) (l : List ℤ) → cell_of f ≡ cells l → (z : ℤ) × (f ≡ Some z) × (l ≡ z ∷ [])
+cell-number (Some z) l e = (z, refl, cc)
+cell-number None l e = never (cc)
 
 -- the end of a line is its LF
 line-end : (s : List ℕ) (b : Bool) (l : List ℤ) → eqb (get_or s 0 0) 10 ≡ b → 1 ≤ length s → given b [] ≡ cells l → s ≡ line_text l ++ drop 1 s

@@ -6,7 +6,7 @@ ghost use Rattle.text.specs.Field.{field_width};
 ghost use Rattle.tables.specs.Starts.{Starts};
 ghost use Rattle.tables.specs.Table.{fields_max, lines_max, line_of, table_of, given, line_bytes};
 
-use text::{COLUMNS, Field};
+use text::COLUMNS;
 
 // Where the fields of a line start.
 const STARTS: [usize; 5] = [0, 8, 16, 24, 32];
@@ -33,27 +33,18 @@ fn fields(starts: &[usize; 5], text: &[u8], at: usize, row: &mut [i64]) -> bool
     requires row_len_bound { (length row.old ≤ fields_max) × (at + field_width * length row.old < length text.now) }
     ensures { line_of (length row.old) (drop at text.now) ≡ given result row.new }
 {
-    let mut j = 0;
-    let mut end = at;
-    while j < row.len() {
+    for (j, cell) in row.iter_mut().enumerate() {
         let a = at + start(starts, j);
-        let e = a + COLUMNS;
-        let f = text::read_field(&text[a..e]);
-        match f {
-            Field::Number(z) => {
-                row[j] = z;
-            }
-            Field::Malformed => {
-                return false;
-            }
-        }
-        end = e;
-        j += 1;
+        let Some(z) = text::read_field(&text[a..a + COLUMNS]) else {
+            return false;
+        };
+        *cell = z;
     }
-    text[end] == 10
+    text[at + COLUMNS * row.len()] == b'\n'
 }
 
 // `n` lines of `w` fields from `at`. Whether they are well formed; then `cells` has their numbers, line after line.
+// The numbers go into a slice that the caller lends: a library has no heap.
 pub fn table(text: &[u8], at: usize, w: usize, n: usize, cells: &mut [i64]) -> bool
     requires w_bound { (w ≤ fields_max) × (n ≤ lines_max) }
     requires n_in_bounds { (at + line_bytes w * n ≤ length text.now) × (length cells.old ≡ w * n) }
@@ -61,17 +52,11 @@ pub fn table(text: &[u8], at: usize, w: usize, n: usize, cells: &mut [i64]) -> b
 {
     let starts = field_starts();
     let bytes = COLUMNS * w + 1;
-    let mut i = 0;
-    let mut pos = at;
-    let mut from = 0;
-    while i < n {
-        let to = from + w;
-        if !fields(&starts, text, pos, &mut cells[from..to]) {
+    for i in 0..n {
+        let from = w * i;
+        if !fields(&starts, text, at + bytes * i, &mut cells[from..from + w]) {
             return false;
         }
-        pos += bytes;
-        from = to;
-        i += 1;
     }
     true
 }

@@ -7,23 +7,35 @@ use mathlib.Core.Path.{◌≡◌, refl, ap, sym, ◌∙◌}
 use native.Mathlib.Omega.{arith}
 use native.Mathlib.Decide.{ℕ_discrete}
 use native.Mathlib.Nat.{pow-succ', pow-le-pow_right, zero-add}
-use native.Mathlib.Numerals.{add-one}
+use native.Mathlib.Numerals.{add-one, one-add}
 use lib.ListN.{length, take, drop, get_or, length-append, length-drop}
 use lib.IntN.{ℤ, pos, negsuc}
 use lib.Seq.{take_all, drop-cons, drop-drop}
 use lib.Dec.{eqb, leb, lit<}
 use borrow.Author.Tests.{eq-eqb, ne_eqb, eqb-true, eqb-false, not-true, le-leb, leb-true, lt-ltb}
-use Rattle.whole.specs.Bools.{and-true}
+use Rattle.whole.specs.Bools.{and-true, is_false}
 use Rattle.text.specs.Bytes.{eqs-refl, eqs-other}
+use Rattle.std.specs.Prelude.{None, Some}
+use Rattle.std.specs.List.{prefix_len}
+use Rattle.std.proofs.lemmas.List.Sums.{prefix_len-le-length}
 use Rattle.text.specs.Field.{field_width, spaces_of, digits_of, value_of, columns, columns-length, last_digit, field_of, field_text, candidate, signed}
 use Rattle.text.specs.Natural.{is_figure, figures, plain, number_if, below_zero}
-use Rattle.text.specs.declared.Field.TheVariants.{Number, Malformed}
 
 -- ---- a byte at a time
 
 -- The part from i on is all that is left of a list of bytes.
 pub part-all : (s : List ℕ) (i : ℕ) → take (length s - i) (drop i s) ≡ drop i s
 part-all s i = take_all (length s - i) (drop i s) (simp length-drop (omega arith))
+
+-- The spaces that bytes begin with are all before the first byte that is none.
+spaces-prefix : (s : List ℕ) → prefix_len (λ b. eqb b 32) s ≡ spaces_of s
+unfolding spaces_of
+spaces-prefix [] = refl
+spaces-prefix (b ∷ s) = rw (spaces-prefix s, one-add) refl
+
+-- So a count of them up to there is theirs.
+pub spaces-counted : (s : List ℕ) (n : ℕ) → n ≡ prefix_len (λ b. eqb b 32) s → (n ≡ spaces_of s) × (n ≤ length s)
+spaces-counted s n e = (e ∙ spaces-prefix s, rw e (prefix_len-le-length (λ b. eqb b 32) s))
 
 -- A space more.
 pub spaces-more : (s : List ℕ) (i : ℕ) → i < length s → get_or s i 0 ≡ 32 → spaces_of (drop i s) ≡ suc (spaces_of (drop (suc i) s))
@@ -34,6 +46,10 @@ spaces-more s i h e = rw (drop-cons s i 0 h, eq-eqb (get_or s i 0) 32 e)
 pub spaces-end : (s : List ℕ) (i : ℕ) → i < length s → (get_or s i 0 ≡ 32 → ⊥) → spaces_of (drop i s) ≡ 0
 unfolding spaces_of
 spaces-end s i h e = rw (drop-cons s i 0 h, ne_eqb (get_or s i 0) 32 e)
+
+-- Fewer than five spaces, where five would be wrong.
+pub fewer-spaces : (s : List ℕ) → (5 ≤ spaces_of s → ⊥) → leb 5 (spaces_of s) ≡ false
+fewer-spaces s f = is_false (leb 5 (spaces_of s)) (λ e. f (leb-true 5 (spaces_of s) e))
 
 -- One of the spaces that a field begins with.
 pub space-at : (s : List ℕ) (i : ℕ) → i < spaces_of s → get_or s i 0 ≡ 32
@@ -51,9 +67,26 @@ pub spaces-pass : (s : List ℕ) (i : ℕ) → i ≤ length s → ((k : ℕ) →
 spaces-pass s zero l h = sym (zero-add (spaces_of s))
 spaces-pass s (suc i) l h = spaces-pass s i (omega arith) (λ k m. h k (omega arith)) ∙ omega (arith, spaces-more s i (omega arith) (h i (omega arith)))
 
--- Four bytes that make the word of four spaces are spaces.
-pub word-spaces : (a b c d : ℕ) → a < 256 → b < 256 → c < 256 → a + b * 256 + c * 65536 + d * 16777216 ≡ 538976288 → (a ≡ 32) × (b ≡ 32) × (c ≡ 32) × (d ≡ 32)
-word-spaces a b c d p q r e = (omega arith, omega arith, omega arith, omega arith)
+-- Bytes that make the word of four spaces are four spaces.
+pub word-spaces : (s : List ℕ) → get_or s 0 0 < 256 → get_or s 1 0 < 256 → get_or s 2 0 < 256
+    → get_or s 0 0 + get_or s 1 0 * 256 + get_or s 2 0 * 65536 + get_or s 3 0 * 16777216 ≡ 538976288
+    → (get_or s 0 0 ≡ 32) × (get_or s 1 0 ≡ 32) × (get_or s 2 0 ≡ 32) × (get_or s 3 0 ≡ 32)
+word-spaces s p q r e = (omega arith, omega arith, omega arith, omega arith)
+
+-- After four spaces the fifth column decides whether there are five.
+pub five-spaces : (s : List ℕ) → 4 < length s → (get_or s 0 0 ≡ 32) × (get_or s 1 0 ≡ 32) × (get_or s 2 0 ≡ 32) × (get_or s 3 0 ≡ 32)
+    → eqb (get_or s 4 0) 32 ≡ leb 5 (spaces_of s)
+five-spaces s h (a, b, c, d) = by (ℕ_discrete (get_or s 4 0) 32)
+  where
+    first : spaces_of s ≡ 1 + spaces_of (drop 1 s)
+    first = omega (arith, spaces-more s 0 (omega arith) a)
+
+    four : spaces_of s ≡ 4 + spaces_of (drop 4 s)
+    four = omega (arith, first, spaces-more s 1 (omega arith) b, spaces-more s 2 (omega arith) c, spaces-more s 3 (omega arith) d)
+
+    by : Dec (get_or s 4 0 ≡ 32) → eqb (get_or s 4 0) 32 ≡ leb 5 (spaces_of s)
+    by (yes p) = eq-eqb (get_or s 4 0) 32 p ∙ sym (le-leb 5 (spaces_of s) (omega (arith, four, spaces-more s 4 h p)))
+    by (no p) = ne_eqb (get_or s 4 0) 32 p ∙ sym (fewer-spaces s (λ l. omega (arith, four, spaces-end s 4 h p)))
 
 -- Nothing begins with no space.
 pub spaces-none : spaces_of [] ≡ 0
@@ -363,12 +396,12 @@ text-signed (c ∷ t) g n r =
 -- ---- what a field holds
 
 -- A field that is its candidate's text.
-field-yes : (s : List ℕ) (z : ℤ) → candidate s ≡ z → field_text (length s) z ≡ s → field_of s ≡ Number z
+field-yes : (s : List ℕ) (z : ℤ) → candidate s ≡ z → field_text (length s) z ≡ s → field_of s ≡ Some z
 unfolding field_of
 field-yes s z e t = rw (e, t, eqs-refl s) refl
 
 -- A field that is not.
-field-no : (s : List ℕ) (z : ℤ) → candidate s ≡ z → (s ≡ field_text (length s) z → ⊥) → field_of s ≡ Malformed
+field-no : (s : List ℕ) (z : ℤ) → candidate s ≡ z → (s ≡ field_text (length s) z → ⊥) → field_of s ≡ None
 unfolding field_of
 field-no s z e t = rw (e, eqs-other s (field_text (length s) z) t) refl
 
@@ -417,7 +450,7 @@ minus-plain s e g n l h d v q =
     (r.sign, text-plain e g n l r.some r.text v r.all)
 
 -- The cases of `field-minus`: -0 is no text, since 0 is written with no sign.
-minus-by : (s e : List ℕ) → 0 < length s → digits_of s ≡ 45 ∷ e → (n : ℕ) → value_of 0 e ≡ n → (t : Bool) → plain e ≡ t → field_of s ≡ below_zero (cond t (Number (pos n)) Malformed)
+minus-by : (s e : List ℕ) → 0 < length s → digits_of s ≡ 45 ∷ e → (n : ℕ) → value_of 0 e ≡ n → (t : Bool) → plain e ≡ t → field_of s ≡ below_zero (cond t (Some (pos n)) None)
 unfolding field_text
 minus-by s e h d zero v true p = field-no s (pos 0) (minus-candidate s e 0 d v) (λ q. omega (arith, (minus-plain s e 32 0 (lit< tt) h d v q).0))
 minus-by s e h d zero v false p = field-no s (pos 0) (minus-candidate s e 0 d v) (λ q. omega (arith, (minus-plain s e 32 0 (lit< tt) h d v q).0))

@@ -1,21 +1,20 @@
 -- 02, CR 1: "One proof covers a field of any kind": a field that was read is its number's text (`field-read`), and a number's text is read as that number
 -- (`field_back`). Both hold of a field of any width. Assumes nothing.
-use Rattle.std.specs.Prelude.{ℕ, zero, suc, ◌+◌, ◌-◌, ◌*◌, ◌/◌, ◌%◌, ◌^◌, ◌≤◌, ◌<◌, List, [], ◌∷◌, ◌++◌, Bool, true, false, cond, ◌≡◌, refl, length, get_or, ℤ, pos, negsuc, eqb}
+use Rattle.std.specs.Prelude.{ℕ, zero, suc, ◌+◌, ◌-◌, ◌*◌, ◌/◌, ◌%◌, ◌^◌, ◌≤◌, ◌<◌, List, [], ◌∷◌, ◌++◌, Bool, true, false, cond, Some, None, ◌≡◌, refl, length, get_or, ℤ, pos, negsuc, eqb}
 use Rattle.std.proofs.Common.{append_assoc, ap, ◌∙◌, arith, length-append, eq-eqb, ne_eqb}
 use Rattle.std.proofs.Math.Decide.{ℕ_discrete}
 use Rattle.std.proofs.Math.Nat.{pow-succ'}
 use Rattle.text.specs.Field.{spaces_of, digits_of, value_of, columns, columns-length, last_digit, field_of, field_text, candidate}
 use Rattle.text.specs.Bytes.{eqs, eqs-true}
-use Rattle.text.specs.declared.Field.TheVariants.{Number, Malformed}
 
 -- ---- read, then written
 -- a field that holds a number is the text it was compared with
-picked : (s : List ℕ) (y z : ℤ) (b : Bool) → eqs s (field_text (length s) y) ≡ b → cond b (Number y) Malformed ≡ Number z → s ≡ field_text (length s) z
+picked : (s : List ℕ) (y z : ℤ) (b : Bool) → eqs s (field_text (length s) y) ≡ b → cond b (Some y) None ≡ Some z → s ≡ field_text (length s) z
 picked s y z true e p = let q : y ≡ z = cc in eqs-true s _ e ∙ ap (field_text (length s)) q
 picked s y z false e p = cc
 
 -- a field that was read is the text of its number in as many columns
-pub field-read : (s : List ℕ) (z : ℤ) → field_of s ≡ Number z → s ≡ field_text (length s) z
+pub field-read : (s : List ℕ) (z : ℤ) → field_of s ≡ Some z → s ≡ field_text (length s) z
 unfolding field_of
 field-read s z e = picked s (candidate s) z (eqs s (field_text (length s) (candidate s))) refl e
 
@@ -151,6 +150,6 @@ candidate-text (suc (suc k)) (negsuc n) h =
     rw (value-digits (last_digit (suc (suc k)) 45 (suc n)), value-text (suc k) 45 (suc n) q (omega arith), minus-neg-text k (suc n) p) refl
 
 -- bytes that are the text of their candidate hold it
-pub number-yes : (s : List ℕ) (z : ℤ) → candidate s ≡ z → eqs s (field_text (length s) z) ≡ true → field_of s ≡ Number z
+pub number-yes : (s : List ℕ) (z : ℤ) → candidate s ≡ z → eqs s (field_text (length s) z) ≡ true → field_of s ≡ Some z
 unfolding field_of
 number-yes s z c e = rw (c, e) refl

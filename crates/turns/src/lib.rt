@@ -1,12 +1,13 @@
 // A turn about a natural neighbour (01, "Weights"; the inner loop of `get_natural_neighbor_weights`), and the points that it joins.
 #![tactic(auto)]
 
-ghost use Rattle.std.specs.Prelude.{◌≡◌, ◌<◌, length};
-ghost use Rattle.chart.specs.Tables.{rows};
-ghost use Rattle.chart.specs.Chart.{chart_of, from_of, InRange};
+ghost use Rattle.std.specs.Prelude.{◌≡◌, ◌<◌};
+ghost use Rattle.chart.specs.Chart.{from_of};
+ghost use Rattle.chart.specs.Seen.{seen};
 ghost use Rattle.points.specs.Points.{point_of};
 ghost use Rattle.turns.specs.Turn.{cell_corner, face_center, first_side, add_side, area_of, turn_of};
 
+use chart::Chart;
 use points::Point2;
 
 // A polygon's positive and negative area, summed apart.
@@ -43,76 +44,63 @@ impl Sides {
 }
 
 // The point where half-edge h starts.
-pub fn start_of(vertices: &[i64], edges: &[usize], faces: &[usize], h: usize) -> Point2
-    requires fact_1 { InRange (chart_of vertices.now edges.now faces.now) }
-    requires fact_2 { h < rows edges.now }
-    ensures { result ≡ point_of (from_of (chart_of vertices.now edges.now faces.now) h) }
+pub fn start_of(chart: &Chart, h: usize) -> Point2
+    requires { h < (seen chart.now).half_edges }
+    ensures { result ≡ point_of (from_of (seen chart.now) h) }
 {
-    points::position(vertices, edges, faces, chart::origin_of(edges, h))
+    points::position(chart, chart.origin(h))
 }
 
 // The insertion cell's corner for the listed edge h, seen from q.
-pub fn cell_corner(
-    vertices: &[i64],
-    edges: &[usize],
-    faces: &[usize],
-    q: Point2,
-    h: usize,
-) -> Point2
-    requires fact_1 { InRange (chart_of vertices.now edges.now faces.now) }
-    requires fact_2 { h < rows edges.now }
-    ensures { result ≡ cell_corner (chart_of vertices.now edges.now faces.now) q h }
+#[tactic(auto, unfolding(crate::specs::Turn::cell_corner))]
+pub fn cell_corner(chart: &Chart, q: Point2, h: usize) -> Point2
+    requires { h < (seen chart.now).half_edges }
+    ensures { result ≡ cell_corner (seen chart.now) q h }
 {
-    let from = start_of(vertices, edges, faces, h);
-    let to = start_of(vertices, edges, faces, chart::partner_of(h));
-    points::circumcenter(to.sub(q), from.sub(q), Point2 { x: 0.0, y: 0.0 })
+    let from = start_of(chart, h);
+    let to = start_of(chart, chart.partner(h));
+    points::circumcenter(to - q, from - q, Point2 { x: 0.0, y: 0.0 })
 }
 
 // The circumcenter of face f, seen from q.
-fn face_center(vertices: &[i64], edges: &[usize], faces: &[usize], q: Point2, f: usize) -> Point2
-    requires fact_1 { InRange (chart_of vertices.now edges.now faces.now) }
-    requires fact_2 { f < length faces.now }
-    ensures { result ≡ face_center (chart_of vertices.now edges.now faces.now) q f }
+#[tactic(auto, unfolding(crate::specs::Turn::face_center))]
+fn face_center(chart: &Chart, q: Point2, f: usize) -> Point2
+    requires { f < (seen chart.now).faces }
+    ensures { result ≡ face_center (seen chart.now) q f }
 {
-    let h = chart::adjacent_of(faces, f);
-    let v0 = start_of(vertices, edges, faces, chart::prev_of(edges, h));
-    let v1 = start_of(vertices, edges, faces, h);
-    let v2 = start_of(vertices, edges, faces, chart::next_of(edges, h));
-    points::circumcenter(v0.sub(q), v1.sub(q), v2.sub(q))
+    let h = chart.adjacent(f);
+    let v0 = start_of(chart, chart.prev(h));
+    let v1 = start_of(chart, h);
+    let v2 = start_of(chart, chart.next(h));
+    points::circumcenter(v0 - q, v1 - q, v2 - q)
 }
 
 // The turn about the neighbour where the listed edge `stop` starts, from the half-edge `start`; `before` and `first` are the cell's corners
-// for `start`'s and `stop`'s listed edges. On an accepted chart the bound is never met (`Unbroken`); on any other tables the turn ends by it.
+// for `start`'s and `stop`'s listed edges. On an accepted chart it is there before the steps run out (`Unbroken`); on any other tables they end it.
 pub fn turn_about(
-    vertices: &[i64],
-    edges: &[usize],
-    faces: &[usize],
+    chart: &Chart,
     q: Point2,
     stop: usize,
     first: Point2,
     start: usize,
     before: Point2,
 ) -> f64
-    requires fact_1 { InRange (chart_of vertices.now edges.now faces.now) }
-    requires fact_2 { stop < rows edges.now }
-    requires fact_3 { start < rows edges.now }
-    ensures { result ≡ turn_of (chart_of vertices.now edges.now faces.now) q stop first start before }
+    requires stop_in { stop < (seen chart.now).half_edges }
+    requires start_in { start < (seen chart.now).half_edges }
+    ensures { result ≡ turn_of (seen chart.now) q stop first start before }
 {
-    let end = chart::partner_of(stop);
-    let mut last = face_center(vertices, edges, faces, q, chart::face_of(edges, start));
-    let mut sides = Sides::first(first, before).add(before, last);
-    let mut edge = chart::partner_of(chart::next_of(edges, start));
-    let mut left = edges.len() / 4 - 1;
-    while edge != end {
-        if left == 0 {
-            return 0.0;
-        }
-        let current = face_center(vertices, edges, faces, q, chart::face_of(edges, edge));
+    let end = chart.partner(stop);
+    let mut edge = start;
+    let mut last = before;
+    let mut sides = Sides::first(first, before);
+    for _ in 0..chart.half_edge_count() {
+        let current = face_center(chart, q, chart.face(edge));
         sides = sides.add(last, current);
-        edge = chart::partner_of(chart::next_of(edges, edge));
+        edge = chart.partner(chart.next(edge));
+        if edge == end {
+            return sides.add(current, first).area();
+        }
         last = current;
-        left -= 1;
     }
-    let all = sides.add(last, first);
-    all.area()
+    0.0
 }

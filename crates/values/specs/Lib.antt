@@ -1,3 +1,3 @@
 pub mod Located
+pub mod Method
 pub mod Value
-pub mod Room

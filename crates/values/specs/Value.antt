@@ -1,9 +1,11 @@
 -- 01, "Gradient and value": the value of a load on a chart, behind the refusals of the query and the location.
-use Rattle.std.specs.Prelude.{◌≡◌, refl, Bool, true, false, cond, not, List, [], ◌∷◌, map, ℕ, zero, suc, ◌≤◌, ◌<◌, eqb, ℤ, pos, Float, length, take, get_or}
+use Rattle.std.specs.Prelude.{◌≡◌, refl, Bool, true, false, cond, List, [], ◌∷◌, map, ℕ, zero, suc, ◌≤◌, ◌<◌, eqb, ℤ, pos, Float, length, get_or, Result, Ok, Err}
 use Rattle.std.proofs.Common.{not-suc-le-zero, le_of_suc-le-suc, arith}
 use Rattle.whole.specs.Test.{eq_z}
 use Rattle.geometry.specs.declared.Place.{Place}
 use Rattle.geometry.specs.Plane.{off_grid}
+use Rattle.refusal.specs.declared.Refusal.{Refusal}
+use Rattle.refusal.specs.Number.{number}
 use Rattle.chart.specs.Chart.{Chart, InRange, partner, partner-in}
 use Rattle.locate.specs.declared.Location.{Location}
 use Rattle.locate.specs.declared.Location.TheVariants.{OnVertex, OnEdge, OnFace, OutsideOfConvexHull}
@@ -15,8 +17,6 @@ use Rattle.natural.specs.Natural.{shares_of}
 use Rattle.natural.specs.Facts.{vertices_in}
 use Rattle.interpolate.specs.Values.{Owners, value_sum, value_blend}
 use Rattle.values.specs.Located.{place_refusal, barycentric_at}
-use Rattle.values.specs.declared.InterpolatedValue.{InterpolatedValue}
-use Rattle.values.specs.declared.InterpolatedValue.TheVariants.{Value, Refused}
 
 -- methods: 1 barycentric, 2 natural, 3 with gradients; 0 stands for any other
 abbrev pub method_of : ℤ → ℕ
@@ -28,9 +28,9 @@ pub data Answer : Type 0 where
   turned_down : ℕ → Answer
 
 -- what each case of the call's answer says, in 01's numbers and values
-abbrev pub value_says : InterpolatedValue → Answer
-value_says (Value v) = value v
-value_says (Refused n) = turned_down n
+abbrev pub value_says : Result Float Refusal → Answer
+value_says (Ok v) = value v
+value_says (Err r) = turned_down (number r)
 
 -- method 1: the values by the barycentric weights
 abbrev pub barycentric_value : Chart → Weights → Answer
@@ -132,8 +132,3 @@ pub listed-owners : (c : Chart) → InRange c → (list : List ℕ) → ((k : �
 listed-owners c r [] b = in-none c
 listed-owners c r (h ∷ list) b =
     in-more c _ (map c.origin list) (r.origins h (b 0 (omega arith))) (listed-owners c r list (λ k l. b (suc k) (omega arith)))
-
--- ---- laws: what `natural_shares` leaves of a list
-pub shares_whole : (m : ℕ) (c : Chart) (q : Place) (list list' : List ℕ) → list' ≡ list → (xs : List Float) → take (length list') xs ≡ shares_of c q list'
-    → (n : ℕ) (os : List ℕ) → length list' ≡ n → os ≡ map c.origin list' → natural_value m c q list ≡ value (by_method m c q os (take n xs))
-shares_whole m c q list list' same xs e n os l o = rw (← same, o, ← l, e)

@@ -1,275 +1,223 @@
 // The value of a load on checked tables (01, "Gradient and value"): the location and its refusals, the weights, and the value by a method.
 #![tactic(auto)]
 
-ghost use Rattle.std.specs.Prelude.{◌≡◌, ◌/◌, ◌≤◌, length};
-ghost use Rattle.geometry.specs.Plane.{OnGrid};
-ghost use Rattle.chart.specs.Limits.{most_half_edges};
-ghost use Rattle.chart.specs.Tables.{rows};
-ghost use Rattle.chart.specs.Chart.{chart_of, InRange};
-ghost use Rattle.accepted.specs.Accepted.{Accepted};
+ghost use Rattle.std.specs.Prelude.{◌≡◌, Ok};
+ghost use Rattle.geometry.specs.Grid.{at};
+ghost use Rattle.refusal.specs.Number.{refusal_of};
+ghost use Rattle.chart.specs.Seen.{seen};
 ghost use Rattle.locate.specs.Location.{location_of};
 ghost use Rattle.locate.specs.Laws.{Holds};
 ghost use Rattle.neighbors.specs.Neighbors.{neighbors_of};
-ghost use Rattle.lines.specs.Lines.{Drawn};
-ghost use Rattle.gradient.specs.Gradient.{Valued};
-ghost use Rattle.gradient.specs.Estimated.{Estimated};
 ghost use Rattle.weights.specs.Barycentric.{weights_say};
 ghost use Rattle.natural.specs.Facts.{vertices_in};
 ghost use Rattle.interpolate.specs.Values.{Owners};
 ghost use Rattle.values.specs.Located.{place_refusal, barycentric_at};
-ghost use Rattle.values.specs.Room.{RoomFor};
+ghost use Rattle.values.specs.Method.{number_of, known};
 ghost use Rattle.values.specs.Value.{method_of, value_says, by_method, barycentric_value, natural_value, value_at, located_value, value_on};
 
-use geometry::Place;
+mod prepared;
+
+use accepted::AcceptedChart;
+use chart::Chart;
+use flips::HalfEdges;
+use geometry::{GridPlace, Place};
+use gradient::{Gradients, ValuedChart};
 use locate::Location;
+use natural::EdgeList;
+pub use prepared::Prepared;
+use refusal::Refusal;
 use weights::BarycentricWeights;
+
+// How a value is worked out from those of the vertices.
+#[derive(Clone, Copy, PartialEq, Eq)]
+pub enum Method {
+    Barycentric = 1,
+    Natural = 2,
+    WithGradients = 3,
+}
+
+impl Method {
+    // The method of a number, if it has one.
+    pub fn new(number: i64) -> Option<Method>
+        ensures { known result ≡ method_of number }
+    {
+        match number {
+            1 => Some(Method::Barycentric),
+            2 => Some(Method::Natural),
+            3 => Some(Method::WithGradients),
+            _ => None,
+        }
+    }
+}
 
 // On checked tables: the weights at a location that was found there.
 pub fn weights_at(
-    vertices: &[i64],
-    edges: &[usize],
-    faces: &[usize],
-    q: Place,
+    chart: &Chart,
+    q: GridPlace,
     place: Location,
-) -> BarycentricWeights
-    requires fact_1 { InRange (chart_of vertices.now edges.now faces.now) }
-    requires fact_2 { OnGrid q }
-    requires fact_3 { place ≡ location_of (chart_of vertices.now edges.now faces.now) q }
-    ensures { weights_say result ≡ barycentric_at (chart_of vertices.now edges.now faces.now) q place }
+) -> Result<BarycentricWeights, Refusal>
+    requires { place ≡ location_of (seen chart.now) (at q) }
+    ensures { weights_say result ≡ barycentric_at (seen chart.now) (at q) place }
 {
     match place {
-        Location::OnVertex(v) => weights::vertex_weights(v),
-        Location::OnEdge(h) => weights::edge_weights(vertices, edges, faces, q, h),
-        Location::OnFace(f) => weights::face_weights(vertices, edges, faces, q, f),
-        Location::OutsideOfConvexHull(_) => BarycentricWeights::Refused(14),
+        Location::OnVertex(v) => Ok(weights::vertex_weights(v)),
+        Location::OnEdge(h) => Ok(weights::edge_weights(chart, q, h)),
+        Location::OnFace(f) => Ok(weights::face_weights(chart, q, f)),
+        Location::OutsideOfConvexHull(_) => Err(Refusal::Outside),
     }
 }
 
-// Room for the longest list of half-edges.
-pub fn list_room() -> [usize; 756]
-    ensures { length result ≡ most_half_edges }
-{
-    [0usize; 756]
-}
-
-// 14 for a load outside the hull, else 0.
-pub fn place_refusal(place: Location) -> u64
-    ensures { result ≡ place_refusal place }
+// A load outside the hull is turned down.
+pub fn place_refusal(place: Location) -> Result<(), Refusal>
+    ensures { refusal_of result ≡ place_refusal place }
 {
     match place {
-        Location::OnVertex(_) => 0,
-        Location::OnEdge(_) => 0,
-        Location::OnFace(_) => 0,
-        Location::OutsideOfConvexHull(_) => 14,
+        Location::OutsideOfConvexHull(_) => Err(Refusal::Outside),
+        _ => Ok(()),
     }
-}
-
-// The value, or the refusal.
-#[derive(Clone, Copy)]
-pub enum InterpolatedValue {
-    Value(f64),
-    Refused(u64),
-}
-
-// 1, 2 or 3, or 0 for an unknown method.
-pub fn method_number(method: i64) -> u64
-    ensures { result ≡ method_of method }
-{
-    if method == 1 {
-        return 1;
-    }
-    if method == 2 {
-        return 2;
-    }
-    if method == 3 {
-        return 3;
-    }
-    0
 }
 
 // Method 1: the vertices' values by their barycentric weights.
-fn weighed_value(
-    vertices: &[i64],
-    edges: &[usize],
-    faces: &[usize],
-    w: BarycentricWeights,
-) -> InterpolatedValue
-    requires fact_1 { Valued (chart_of vertices.now edges.now faces.now) }
-    requires fact_2 { Owners (chart_of vertices.now edges.now faces.now) (vertices_in (weights_say w)) }
-    ensures { value_says result ≡ barycentric_value (chart_of vertices.now edges.now faces.now) (weights_say w) }
+fn weighed_value(valued: &ValuedChart, w: BarycentricWeights) -> f64
+    requires { Owners (seen valued.now.chart) (vertices_in (weights_say (Ok w))) }
+    ensures { value_says (Ok result) ≡ barycentric_value (seen valued.now.chart) (weights_say (Ok w)) }
 {
     match w {
-        BarycentricWeights::OneVertex(u, a) => {
-            InterpolatedValue::Value(0.0 + points::value(vertices, u as usize) * a)
+        BarycentricWeights::OneVertex(u) => {
+            interpolate::value_sum(valued, &[u.vertex], &[u.weight])
         }
-        BarycentricWeights::TwoWeights(u, a, v, b) => {
-            let first = 0.0 + points::value(vertices, u as usize) * a;
-            InterpolatedValue::Value(first + points::value(vertices, v as usize) * b)
+        BarycentricWeights::TwoWeights(u, v) => {
+            interpolate::value_sum(valued, &[u.vertex, v.vertex], &[u.weight, v.weight])
         }
-        BarycentricWeights::ThreeWeights(u, a, v, b, t, d) => {
-            let first = 0.0 + points::value(vertices, u as usize) * a;
-            let second = first + points::value(vertices, v as usize) * b;
-            InterpolatedValue::Value(second + points::value(vertices, t as usize) * d)
-        }
-        BarycentricWeights::Refused(n) => InterpolatedValue::Refused(n),
+        BarycentricWeights::ThreeWeights(u, v, t) => interpolate::value_sum(
+            valued,
+            &[u.vertex, v.vertex, t.vertex],
+            &[u.weight, v.weight, t.weight],
+        ),
     }
 }
 
 // Methods 2 and 3, from the vertices and their weights.
 fn value_by(
-    vertices: &[i64],
-    edges: &[usize],
-    faces: &[usize],
-    gradients: &[f64],
-    method: u64,
-    q: Place,
+    gradients: &Gradients,
+    method: Method,
+    q: GridPlace,
     owners: &[usize],
     weights: &[f64],
 ) -> f64
-    requires in_range_1 { InRange (chart_of vertices.now edges.now faces.now) }
-    requires in_range_2 { Valued (chart_of vertices.now edges.now faces.now) }
-    requires in_range_3 { Estimated (chart_of vertices.now edges.now faces.now) gradients.now (rows vertices.now) }
-    requires in_range_4 { OnGrid q }
-    requires owners_1 { Owners (chart_of vertices.now edges.now faces.now) owners.now }
-    requires owners_2 { length owners.now ≡ length weights.now }
-    requires owners_3 { length owners.now ≤ most_half_edges }
-    ensures { result ≡ by_method method (chart_of vertices.now edges.now faces.now) q owners.now weights.now }
+    requires { Owners (seen gradients.now.valued.chart) owners.now }
+    ensures { result ≡ by_method (number_of method) (seen gradients.now.valued.chart) (at q) owners.now weights.now }
 {
-    if method == 2 {
-        return interpolate::value_sum(vertices, edges, faces, owners, weights);
+    match method {
+        Method::Natural => interpolate::value_sum(&gradients.valued, owners, weights),
+        _ => interpolate::value_blend(gradients, q, owners, weights),
     }
-    interpolate::value_blend(vertices, edges, faces, gradients, q, owners, weights)
 }
 
-// Room for a float for each half-edge of the largest chart.
-pub fn float_room() -> [f64; 756]
-    ensures { length result ≡ most_half_edges }
-{
-    [0.0; 756]
+// What methods 2 and 3 write on the way: the list of edges, and two numbers for each. A batch makes it once.
+#[derive(Drop)]
+pub struct Scratch {
+    pub list: HalfEdges,
+    pub xs: [f64; 254],
+    pub ys: [f64; 254],
 }
 
-// Methods 2 and 3 at a location that was found. The caller's room is for the list and its weights: a batch makes it once.
+impl Scratch {
+    pub fn new() -> Self {
+        Self {
+            list: HalfEdges::new(),
+            xs: [0.0; 254],
+            ys: [0.0; 254],
+        }
+    }
+}
+
+// Methods 2 and 3 at a location that was found.
 fn natural_value(
-    vertices: &[i64],
-    edges: &[usize],
-    faces: &[usize],
-    gradients: &[f64],
-    method: u64,
-    q: Place,
+    prepared: &Prepared,
+    method: Method,
+    q: GridPlace,
     place: Location,
-    list: &mut [usize],
-    xs: &mut [f64],
-    ys: &mut [f64],
-) -> InterpolatedValue
-    requires accepted_1 { Accepted (chart_of vertices.now edges.now faces.now) }
-    requires accepted_2 { OnGrid q }
-    requires accepted_3 { Holds (chart_of vertices.now edges.now faces.now) q place }
-    requires room_for_1 { RoomFor list.old xs.old ys.old }
-    requires room_for_2 { Estimated (chart_of vertices.now edges.now faces.now) gradients.now (rows vertices.now) }
-    ensures { value_says result ≡ natural_value method (chart_of vertices.now edges.now faces.now) q (neighbors_of (chart_of vertices.now edges.now faces.now) q place).edges }
+    scratch: &mut Scratch,
+) -> f64
+    requires { Holds (seen prepared.now.accepted.chart) (at q) place }
+    ensures { value_says (Ok result) ≡ natural_value (number_of method) (seen prepared.now.accepted.chart) (at q) (neighbors_of (seen prepared.now.accepted.chart) (at q) place).edges }
 {
-    let found = neighbors::get_natural_neighbor_edges(vertices, edges, faces, q, place, list);
-    let n = found.count;
-    natural::natural_shares(vertices, edges, faces, q, &list[..n], xs, ys);
-    natural::to_origins(edges, list, n);
-    let value = value_by(
-        vertices,
-        edges,
-        faces,
-        gradients,
+    let chart = prepared.accepted.chart;
+    neighbors::get_natural_neighbor_edges(&chart, q, place, &mut scratch.list);
+    let n = scratch.list.len();
+    let edges = EdgeList {
+        chart,
+        edges: &scratch.list,
+    };
+    natural::natural_shares(&edges, q, &mut scratch.xs, &mut scratch.ys);
+    natural::to_origins(chart.edges, &mut scratch.list);
+    value_by(
+        &prepared.gradients(),
         method,
         q,
-        &list[..n],
-        &xs[..n],
-    );
-    InterpolatedValue::Value(value)
+        &scratch.list,
+        &scratch.xs[..n],
+    )
 }
 
-// At a location that was found, by a known method.
+// At a location that was found.
 fn value_at(
-    vertices: &[i64],
-    edges: &[usize],
-    faces: &[usize],
-    gradients: &[f64],
-    method: u64,
-    q: Place,
+    prepared: &Prepared,
+    method: Method,
+    q: GridPlace,
     place: Location,
-    list: &mut [usize],
-    xs: &mut [f64],
-    ys: &mut [f64],
-) -> InterpolatedValue
-    requires accepted_1 { Accepted (chart_of vertices.now edges.now faces.now) }
-    requires accepted_2 { OnGrid q }
-    requires accepted_3 { place ≡ location_of (chart_of vertices.now edges.now faces.now) q }
-    requires room_for_1 { RoomFor list.old xs.old ys.old }
-    requires room_for_2 { Estimated (chart_of vertices.now edges.now faces.now) gradients.now (rows vertices.now) }
-    ensures { value_says result ≡ value_at method (chart_of vertices.now edges.now faces.now) q place }
+    scratch: &mut Scratch,
+) -> Result<f64, Refusal>
+    requires { place ≡ location_of (seen prepared.now.accepted.chart) (at q) }
+    ensures { value_says result ≡ value_at (number_of method) (seen prepared.now.accepted.chart) (at q) place }
 {
-    if method == 1 {
-        let w = weights_at(vertices, edges, faces, q, place);
-        return weighed_value(vertices, edges, faces, w);
+    if method == Method::Barycentric {
+        let chart = prepared.accepted.chart;
+        let w = weights_at(&chart, q, place)?;
+        return Ok(weighed_value(&ValuedChart { chart }, w));
     }
-    natural_value(
-        vertices, edges, faces, gradients, method, q, place, list, xs, ys,
-    )
+    Ok(natural_value(prepared, method, q, place, scratch))
 }
 
-// At a load on the grid, by a known method: 14, then the value. A batch draws the lines and estimates the gradients once.
+// At a load on the grid: 14, then the value.
+#[tactic(auto, unfolding(crate::specs::Value::located_value))]
 pub fn located_value(
-    vertices: &[i64],
-    edges: &[usize],
-    faces: &[usize],
-    lines: &[i64],
-    gradients: &[f64],
-    method: u64,
-    q: Place,
-    list: &mut [usize],
-    xs: &mut [f64],
-    ys: &mut [f64],
-) -> InterpolatedValue
-    requires accepted_1 { Accepted (chart_of vertices.now edges.now faces.now) }
-    requires accepted_2 { OnGrid q }
-    requires room_for_1 { RoomFor list.old xs.old ys.old }
-    requires room_for_2 { Estimated (chart_of vertices.now edges.now faces.now) gradients.now (rows vertices.now) }
-    requires room_for_3 { Drawn (chart_of vertices.now edges.now faces.now) lines.now (rows edges.now / 2) }
-    ensures { value_says result ≡ located_value method (chart_of vertices.now edges.now faces.now) q }
+    prepared: &Prepared,
+    method: Method,
+    q: GridPlace,
+    scratch: &mut Scratch,
+) -> Result<f64, Refusal>
+    ensures { value_says result ≡ located_value (number_of method) (seen prepared.now.accepted.chart) (at q) }
 {
-    let place = locate::locate_by(vertices, edges, faces, lines, q);
-    let refusal = place_refusal(place);
-    if refusal != 0 {
-        return InterpolatedValue::Refused(refusal);
-    }
-    value_at(
-        vertices, edges, faces, gradients, method, q, place, list, xs, ys,
-    )
+    let place = locate::locate_by(&prepared.lines(), q);
+    place_refusal(place)?;
+    value_at(prepared, method, q, place, scratch)
 }
 
 // On checked tables: 12, 13, 14, then the value.
+#[tactic(auto, unfolding(crate::specs::Value::value_on))]
 pub fn value_on(
-    vertices: &[i64],
-    edges: &[usize],
-    faces: &[usize],
-    method: u64,
+    accepted: &AcceptedChart,
+    method: Option<Method>,
     q: Place,
-    list: &mut [usize],
-    xs: &mut [f64],
-    ys: &mut [f64],
-) -> InterpolatedValue
-    requires accepted { Accepted (chart_of vertices.now edges.now faces.now) }
-    requires room_for { RoomFor list.old xs.old ys.old }
-    ensures { value_says result ≡ value_on method (chart_of vertices.now edges.now faces.now) q }
+    scratch: &mut Scratch,
+) -> Result<f64, Refusal>
+    ensures { value_says result ≡ value_on (known method) (seen accepted.now.chart) q }
 {
-    if method == 0 {
-        return InterpolatedValue::Refused(12);
-    }
-    if geometry::off_grid(q) {
-        return InterpolatedValue::Refused(13);
-    }
+    let method = method.ok_or(Refusal::Unknown)?;
+    let q = GridPlace::new(q.x, q.y).ok_or(Refusal::OffGrid)?;
     let mut lines = lines::room();
-    lines::draw(vertices, edges, faces, &mut lines);
+    lines::draw(&accepted.chart, &mut lines);
     let mut gradients = gradient::room();
-    gradient::estimate_gradients(vertices, edges, faces, &mut gradients);
-    located_value(
-        vertices, edges, faces, &lines, &gradients, method, q, list, xs, ys,
-    )
+    let valued = ValuedChart {
+        chart: accepted.chart,
+    };
+    gradient::estimate_gradients(&valued, &mut gradients);
+    let prepared = Prepared {
+        accepted: *accepted,
+        lines: &lines,
+        gradients: &gradients,
+    };
+    located_value(&prepared, method, q, scratch)
 }

@@ -1,34 +1,31 @@
 -- 01, "Weights": barycentric, `Barycentric::get_weights` by the kind of location, the same operations on f64 in the same order.
-use Rattle.std.specs.Prelude.{List, [], ◌∷◌, map, ℕ, Float}
+use Rattle.std.specs.Prelude.{List, [], ◌∷◌, map, ℕ, Float, Result, Ok, Err}
 use Rattle.geometry.specs.declared.Place.{Place}
+use Rattle.refusal.specs.declared.Refusal.{Refusal}
+use Rattle.refusal.specs.Number.{number}
 use Rattle.chart.specs.Chart.{Chart, partner, corner₀, corner₁, corner₂}
 use Rattle.points.specs.declared.Point2.{Point2}
 use Rattle.points.specs.Floats.{f1, ◌+f◌, ◌-f◌, ◌*f◌, ◌/f◌}
 use Rattle.points.specs.Points.{point_of, project_point, relative_position}
-use Rattle.weights.specs.declared.Weights2.{Weights2}
-use Rattle.weights.specs.declared.Weights3.{Weights3}
+pub use Rattle.weights.specs.declared.Weighted.{Weighted}
 use Rattle.weights.specs.declared.BarycentricWeights.{BarycentricWeights}
-use Rattle.weights.specs.declared.BarycentricWeights.TheVariants.{OneVertex, TwoWeights, ThreeWeights, Refused}
+use Rattle.weights.specs.declared.BarycentricWeights.TheVariants.{OneVertex, TwoWeights, ThreeWeights}
 
 -- `two_point_interpolation`: [one - rel, rel], so that the end v1 gets the relative position and the start v0 the rest
-unfoldable pub two_point_interpolation : Point2 → Point2 → Point2 → Weights2
+unfoldable pub two_point_interpolation : Point2 → Point2 → Point2 → Float × Float
 two_point_interpolation v0 v1 q =
     let rel = relative_position (project_point v0 v1 q) in
-    record { w0 = f1 -f rel; w1 = rel }
+    (f1 -f rel, rel)
 
 -- `barycentric_interpolation`: two quotients by one determinant, and one - lambda1 - lambda2, taken off one after the other
-unfoldable pub barycentric_interpolation : Point2 → Point2 → Point2 → Point2 → Weights3
+unfoldable pub barycentric_interpolation : Point2 → Point2 → Point2 → Point2 → Float × Float × Float
 barycentric_interpolation v1 v2 v3 q =
     let det = (v2.y -f v3.y) *f (v1.x -f v3.x) +f (v3.x -f v2.x) *f (v1.y -f v3.y) in
     let lambda1 = ((v2.y -f v3.y) *f (q.x -f v3.x) +f (v3.x -f v2.x) *f (q.y -f v3.y)) /f det in
     let lambda2 = ((v3.y -f v1.y) *f (q.x -f v3.x) +f (v1.x -f v3.x) *f (q.y -f v3.y)) /f det in
-    record { c0 = lambda1; c1 = lambda2; c2 = f1 -f lambda1 -f lambda2 }
+    (lambda1, lambda2, f1 -f lambda1 -f lambda2)
 
 -- a vertex and its weight
-pub record Weighted : Type 0 where
-  pub vertex : ℕ
-  pub weight : Float
-
 abbrev weigh : ℕ → Float → Weighted
 weigh v w = record { vertex = v; weight = w }
 
@@ -45,23 +42,23 @@ pub data Weights : Type 0 where
   turned_down : ℕ → Weights
 
 -- what each case of the call's answer says, in 01's numbers and values
-abbrev pub weights_say : BarycentricWeights → Weights
-weights_say (OneVertex v w) = weights (weigh v w ∷ [])
-weights_say (TwoWeights u w v x) = weights (weigh u w ∷ weigh v x ∷ [])
-weights_say (ThreeWeights u w v x t y) = weights (weigh u w ∷ weigh v x ∷ weigh t y ∷ [])
-weights_say (Refused n) = turned_down n
+abbrev pub weights_say : Result BarycentricWeights Refusal → Weights
+weights_say (Ok (OneVertex u)) = weights (u ∷ [])
+weights_say (Ok (TwoWeights u v)) = weights (u ∷ v ∷ [])
+weights_say (Ok (ThreeWeights u v w)) = weights (u ∷ v ∷ w ∷ [])
+weights_say (Err r) = turned_down (number r)
 
 -- two vertices of the chart with their weights at q
 unfoldable pub weigh_two : Chart → Place → ℕ → ℕ → Weights
 weigh_two c q v0 v1 =
     let w = two_point_interpolation (point_of (c.place v0)) (point_of (c.place v1)) (point_of q) in
-    weights (weigh v0 w.w0 ∷ weigh v1 w.w1 ∷ [])
+    weights (weigh v0 w.0 ∷ weigh v1 w.1 ∷ [])
 
 -- three vertices of the chart with their weights at q
 unfoldable pub weigh_three : Chart → Place → ℕ → ℕ → ℕ → Weights
 weigh_three c q v0 v1 v2 =
     let w = barycentric_interpolation (point_of (c.place v0)) (point_of (c.place v1)) (point_of (c.place v2)) (point_of q) in
-    weights (weigh v0 w.c0 ∷ weigh v1 w.c1 ∷ weigh v2 w.c2 ∷ [])
+    weights (weigh v0 w.0 ∷ weigh v1 w.1 ∷ weigh v2 w.2 ∷ [])
 
 -- OnVertex(vertex): (vertex, 1.0)
 abbrev pub vertex_weights : ℕ → Weights

@@ -1,7 +1,7 @@
 -- The lowest number below n of which a test holds, or n where there is none: what a scan from the front finds.
 -- A scan's invariant is that no number before i passes (`some_at` at a hit, `some-none` at the end), or, where the number found is wanted, that the rest
 -- of the scan finds it. Assumes nothing.
-use Rattle.std.specs.Prelude.{◌≡◌, refl, Bool, true, false, ℕ, zero, suc, ◌+◌, ◌-◌, ◌≤◌, ◌<◌, ◌⊎◌, ltb}
+use Rattle.std.specs.Prelude.{cond, Option, None, Some, ◌≡◌, refl, Bool, true, false, ℕ, zero, suc, ◌+◌, ◌-◌, ◌≤◌, ◌<◌, ◌⊎◌, ltb}
 use Rattle.std.proofs.Common.{sym, ap, subst, ◌∙◌, zero-le, lt_of_lt_of_le, lt_irrefl, not-le_of_lt, eq-or-lt_of_le, add-suc, suc-add, add-zero, zero-add, inl, inr, ⊎_elim, ltb-true, ltb-false, below_more, add-one, arith}
 use Rattle.std.proofs.lemmas.Bool.{false≢true}
 use Rattle.std.proofs.Math.Nat.{sub-zero}
@@ -116,3 +116,7 @@ some-skip p n e = choose (some p n) refl
         let l = ltb-true (first p n) n h in
         some_at p (n + 1) (first p n) (omega arith) (first_found p n l) ∙ sym h
     choose false h = some-none p (n + 1) (below_more _ _ (none-at p n h) e) ∙ sym h
+
+-- the number found, if there is one
+abbrev pub found : (ℕ → Bool) → ℕ → Option ℕ
+found p n = cond (some p n) (Some (first p n)) None

@@ -1,8 +1,8 @@
 -- What callers need of the definitions of Writing. Assumes nothing.
-use Rattle.std.specs.Prelude.{true, false, cond, List, ◌++◌, ◌≡◌, ℕ, zero, suc, ◌%◌, ◌≤◌, ◌<◌, ltb, ℤ, pos, length, drop}
+use Rattle.std.specs.Prelude.{Bool, true, false, cond, List, ◌++◌, ◌≡◌, ℕ, zero, suc, ◌≤◌, ◌<◌, ltb, ℤ, pos, length, drop}
 use Rattle.std.proofs.Math.Path.{refl}
-use Rattle.std.proofs.Common.{arith}
-use borrow.Author.Tests.{ne_eqb, lt-ltb, ltb-false, le-ltb, eq-eqb}
+use Rattle.std.proofs.Common.{arith, sym}
+use borrow.Author.Tests.{lt-ltb, ltb-false, le-ltb}
 use Rattle.whole.specs.Bools.{never}
 use Rattle.chart.specs.Tables.{rows}
 use Rattle.ranges.specs.Ranges.{counts_refused}
@@ -15,15 +15,6 @@ use Rattle.writing.specs.Laws.{past, Done}
 
 -- ---- the refusals of the tables, one after the other
 module _ (vs es fs : List ℤ) where
-  -- 2, by the vertices and by the half-edges
-  pub vertices-two : (length vs % 4 ≡ 0 → ⊥) → 2 ≡ numbers_refusal vs es fs
-  unfolding numbers_refusal
-  vertices-two n = rw (ne_eqb (length vs % 4) 0 n) refl
-
-  pub edges-two : length vs % 4 ≡ 0 → (length es % 4 ≡ 0 → ⊥) → 2 ≡ numbers_refusal vs es fs
-  unfolding numbers_refusal
-  edges-two e n = rw (eq-eqb (length vs % 4) 0 e, ne_eqb (length es % 4) 0 n) refl
-
   -- 4
   pub counts-four : uneven vs es ≡ false → counts_refused (pos (rows vs)) (pos (rows es)) (pos (length fs)) ≡ true → 4 ≡ numbers_refusal vs es fs
   unfolding numbers_refusal
@@ -33,6 +24,14 @@ module _ (vs es fs : List ℤ) where
   pub later-refusal : uneven vs es ≡ false → counts_refused (pos (rows vs)) (pos (rows es)) (pos (length fs)) ≡ false → tables_refusal vs es fs ≡ numbers_refusal vs es fs
   unfolding numbers_refusal
   later-refusal e h = rw (e, h) refl
+
+-- what the counts' maker says of 4
+pub met-four : (b : Bool) (n : ℕ) → 0 < n → n ≡ cond b 4 0 → (b ≡ true) × (4 ≡ n)
+met-four true n h e = (refl, sym e)
+met-four false n h e = let o : ⊥ = omega arith in absurd o
+
+pub passed-four : (b : Bool) → ◌≡◌ {A = ℕ} 0 (cond b 4 0) → b ≡ false
+passed-four b e = (past b 3 0 (sym e)).0
 
 module _ (vs es fs : List ℤ) (h : numbers_refusal vs es fs ≡ 0) where
   -- 2 does not meet them

@@ -1,11 +1,11 @@
 -- 02, CR 1: "A writer puts an accepted chart's tables into a lent buffer as chart text."
-use Rattle.std.specs.Prelude.{Bool, not, cond, ◌||◌, List, ◌++◌, ℕ, zero, suc, ◌%◌, ltb, eqb, ℤ, pos, length, drop}
+use Rattle.std.specs.Prelude.{Result, Ok, Err, Bool, not, cond, ◌||◌, List, ◌++◌, ℕ, zero, suc, ◌%◌, ltb, eqb, ℤ, pos, length, drop}
+use Rattle.refusal.specs.declared.Refusal.{Refusal}
+use Rattle.refusal.specs.Number.{number}
 use Rattle.chart.specs.Tables.{rows}
 use Rattle.ranges.specs.Ranges.{counts_refused}
 use Rattle.checks.specs.Checks.{tables_refusal}
 use Rattle.reading.specs.Text.{chart_text}
-use Rattle.writing.specs.declared.WrittenChart.{WrittenChart}
-use Rattle.writing.specs.declared.WrittenChart.TheVariants.{Length, Refused}
 
 -- 02 CR 1: "a call that fills a slice with a text or a list returns its length"; or the number of the refusal
 pub data Written : Type 0 where
@@ -13,9 +13,9 @@ pub data Written : Type 0 where
   turned_down : ℕ → Written
 
 -- what each case of the call's answer says, in 02's numbers
-abbrev pub written_says : WrittenChart → Written
-written_says (Length n) = wrote n
-written_says (Refused n) = turned_down n
+abbrev pub written_says : Result ℕ Refusal → Written
+written_says (Ok n) = wrote n
+written_says (Err r) = turned_down (number r)
 
 -- the call's answer, and the lent buffer as it returns
 pub record Saved : Type 0 where
@@ -23,7 +23,7 @@ pub record Saved : Type 0 where
   pub buffer : List ℕ
 
 -- what a call said and left: for the contracts alone, so that no answer is stated in its terms
-abbrev pub saved_left : WrittenChart → List ℕ → Saved
+abbrev pub saved_left : Result ℕ Refusal → List ℕ → Saved
 saved_left r s = record { answer = written_says r; buffer = s }
 
 -- ---- the refusals

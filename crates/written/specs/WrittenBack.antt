@@ -1,8 +1,7 @@
 -- 02, CR 1: "The bytes equal the file that was read, for every accepted file, and reading what it wrote yields the same tables." Assumes nothing.
-use Rattle.std.specs.Prelude.{List, ◌++◌, ◌≡◌, refl, ℕ, ◌≤◌, ℤ, length, take, drop}
+use Rattle.std.specs.Prelude.{List, ◌++◌, Some, ◌≡◌, refl, ℕ, ◌≤◌, ℤ, length, take, drop}
 use Rattle.std.proofs.Common.{sym, ap, subst, ◌∙◌, le_trans, le_of_eq, arith, take_at}
 use Rattle.text.specs.Field.{field_of, field_text}
-use Rattle.text.specs.declared.Field.TheVariants.{Number}
 use Rattle.text.specs.RoundTrip.{Fits}
 use Rattle.text.specs.RoundTrip as F
 use Rattle.text.proofs.RoundTrip.{field_back}
@@ -11,8 +10,8 @@ use Rattle.chart.specs.Tables.{rows, unsigned_all}
 use Rattle.ranges.specs.Passed.{Counted, counts-pass}
 use Rattle.checks.specs.Checks.{tables_refusal}
 use Rattle.checks.specs.Checks.Loaded.{loaded}
-use Rattle.reading.specs.declared.Head.{Head}
-use Rattle.reading.specs.declared.Head.TheVariants.{Refused, Counts}
+use Rattle.reading.specs.Reading.{Head}
+use Rattle.reading.specs.Reading.Head.{Refused, Counts}
 use Rattle.reading.specs.Reading.{head_of, file_length, Body, body_of, load_body, load_of, chart_in, refusal_of, chart_refusal_of}
 use Rattle.reading.specs.Reading.Body.{body, malformed}
 use Rattle.reading.specs.Laws.{told-refusal, told-zero, head-refusal, load-refusal}
@@ -33,9 +32,9 @@ pub record Numbers (s : List ℕ) : Type 0 where
 
 pub record WrittenBack : Type 0 where
   -- "One proof covers a field of any kind": of any width, bytes that hold a number are its text ..
-  pub field-read : (s : List ℕ) (z : ℤ) → field_of s ≡ Number z → s ≡ field_text (length s) z
+  pub field-read : (s : List ℕ) (z : ℤ) → field_of s ≡ Some z → s ≡ field_text (length s) z
   -- .. and the text of a number that has one in w columns holds it
-  pub field_back : (w : ℕ) (z : ℤ) → Fits w z → field_of (field_text w z) ≡ Number z
+  pub field_back : (w : ℕ) (z : ℤ) → Fits w z → field_of (field_text w z) ≡ Some z
   -- "The bytes equal the file that was read, for every accepted file": each holds tables as numbers ..
   pub file-numbers : (s : List ℕ) → chart_refusal_of s ≡ 0 → Numbers s
   -- .. which are those that every other call reads ..

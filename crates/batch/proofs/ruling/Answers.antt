@@ -1,74 +1,60 @@
--- `batch::ruling` meets its contract: 12, 13, a splice, or a bend where its load lies. Assumes nothing.
-use mathlib.Core.Path.{◌≡◌, sym, ap, ◌∙◌}
-use mathlib.Core.Bool.{false}
-use Prim.Native.Nat.{ℕ}
-use Rattle.geometry.specs.declared.Place.{Place}
-use lib.IntN.{pos}
-use mir.Syntax.{w64}
-use mir.Val.{SFits}
-use mir.Facts.{sfits_lit, to_z-of_z}
-use Rattle.whole.specs.Test.{bits-true, bits-false}
-use Rattle.geometry.specs.Plane.{off_grid, on-grid}
-use Rattle.chart.specs.Chart.{chart_of}
-use Rattle.chart.specs.Tables.{unsigned}
-use Rattle.values.specs.Value.{method_of, located_value}
-use Rattle.entries.specs.declared.Ruling.TheVariants.{Splice}
-use Rattle.entries.specs.Entry.{unknown, place_in}
-use Rattle.accounts.specs.Rulings.{bend_ruling}
-use Rattle.batch.specs.Laws.{ruling-unknown, ruling-off-grid, ruling-splice, ruling-bend}
-use borrow.Author.Rules.{rules}
+-- `batch::ruling` meets its contract: 12, a splice, or 13 and what the load's value costs. Assumes nothing.
+use Rattle.std.proofs.Common.{ap, ◌∙◌, Ok, SFits, to_z-of_z, w64, rules}
+use Rattle.std.proofs.lemmas.Result.{err_from_is_err_and}
+use Rattle.chart.specs.Seen.{seen}
+use Rattle.values.specs.Method.{number_of}
+use Rattle.values.specs.Value.{located_value}
+use Rattle.batch.specs.Laws.{refused-off, kept-on, from-known, from_off, from-turned, from-charge}
 use Rattle.batch.proofs.ruling.Goals as goal
-use Rattle.batch.proofs.ruling.Goals.{After-off_grid, After-to_unsigned-section, Else-is_unknown}
 
-two : SFits w64 (pos 2)
-two = sfits_lit tt
-
--- 12 has let the entry pass
-passed : (c : Else-is_unknown) → unknown c.args.sections c.args.e ≡ false
-passed c = sym c.is_unknown.ensures ∙ c.if-is_unknown.false
-
--- the test of the place, over the entry
-place-test : (c : After-off_grid) → off_grid (place_in c.args.e) ≡ c.off_grid.result
-place-test c = ap off_grid (sym c.place_in-q.ensures) ∙ sym c.off_grid.ensures
-
--- the section, over the entry
-section-is : (c : After-to_unsigned-section) → c.to_unsigned-section.result ≡ unsigned c.args.e.section
-section-is c =
-    let e = c.args.e in
-    let f : SFits w64 e.section = search rules in
-    simp (to_z-of_z f) at c.to_unsigned-section.ensures
-
-pub returns-then-is_unknown : goal.returns-then-is_unknown
-returns-then-is_unknown c =
+pub returns-in_err-section : goal.returns-in_err-section
+returns-in_err-section c =
     let a = c.args in
-    sym (ruling-unknown (chart_of a.vertices.now a.edges.now a.faces.now) a.sections a.e (sym c.is_unknown.ensures ∙ c.if-is_unknown.true))
+    let p = err_from_is_err_and c.from_residual.result c.from_residual.ensures.1 in
+    rw (p.1, p.2) (from-known (seen a.prepared.now.accepted.chart) a.sections a.e _ c.known.ensures _ c.in_err-section.was)
 
-pub returns-then-off_grid : goal.returns-then-off_grid
-returns-then-off_grid c =
+pub returns-in-Splice : goal.returns-in-Splice
+returns-in-Splice c =
     let a = c.args in
-    sym (ruling-off-grid (chart_of a.vertices.now a.edges.now a.faces.now) a.sections a.e (passed (goal.at.returns-then-off_grid c).Else-is_unknown) (place-test (goal.at.returns-then-off_grid c).After-off_grid ∙ c.if-off_grid.true))
+    from-known (seen a.prepared.now.accepted.chart) a.sections a.e _ c.known.ensures _ (c.in_ok-section.was ∙ ap Ok c.in-Splice.is)
 
-pub returns-then-e-eq2 : goal.returns-then-e-eq2
-returns-then-e-eq2 c =
-    let s = (goal.at.returns-then-e-eq2 c).After-to_unsigned-section in
+pub returns-in_err-q-in-Bend : goal.returns-in_err-q-in-Bend
+returns-in_err-q-in-Bend c =
     let a = c.args in
-    let k : SFits w64 a.e.kind = search rules in
-    ap Splice (section-is s)
-    ∙ sym (ruling-splice (chart_of a.vertices.now a.edges.now a.faces.now) a.sections a.e (passed (goal.at.returns-then-e-eq2 c).Else-is_unknown) (place-test (goal.at.returns-then-e-eq2 c).After-off_grid ∙ c.if-off_grid.false) (bits-true k two c.if-e-eq2.true))
+    let r = c.from_residual-in_err-q-in-Bend in
+    let p = err_from_is_err_and r.result r.ensures.1 in
+    let fx : SFits w64 c.in-Bend.place.x = search rules in
+    let fy : SFits w64 c.in-Bend.place.y = search rules in
+    let o = refused-off _ _ c.in-Bend.place _ c.ok_or.ensures.value c.in_err-q-in-Bend.was (simp (to_z-of_z fx, to_z-of_z fy) at c.new.ensures) in
+    rw (p.1, p.2, o.0) (from_off (seen a.prepared.now.accepted.chart) a.sections a.e _ c.known.ensures _ _ _ (c.in_ok-section.was ∙ ap Ok c.in-Bend.is) o.1)
 
-pub located_bend-requires-clause-accepted_2 : goal.located_bend-requires-clause-accepted_2
-located_bend-requires-clause-accepted_2 c = on-grid _ (sym c.off_grid.ensures ∙ c.if-off_grid.false)
-
-pub returns : goal.returns
-returns c =
+pub returns-in_err-value-in-Bend : goal.returns-in_err-value-in-Bend
+returns-in_err-value-in-Bend c =
     let a = c.args in
-    let p = c.place_in-q in
-    let d = (chart_of a.vertices.now a.edges.now a.faces.now) in
-    let k : SFits w64 a.e.kind = search rules in
-    let m : SFits w64 a.e.method = search rules in
-    let n : c.method_number-method.result ≡ method_of a.e.method = simp (to_z-of_z m) at c.method_number-method.ensures in
-    c.located_bend.ensures
-    ∙ (ap (λ (i : ℕ). bend_ruling i (located_value c.method_number-method.result d p.result)) (section-is (goal.at.returns c).After-to_unsigned-section)
-    ∙ (ap (λ (i : ℕ). bend_ruling (unsigned a.e.section) (located_value i d p.result)) n
-    ∙ (ap (λ (x : Place). bend_ruling (unsigned a.e.section) (located_value (method_of a.e.method) d x)) p.ensures
-    ∙ sym (ruling-bend d a.sections a.e (passed (goal.at.returns c).Else-is_unknown) (place-test (goal.at.returns c).After-off_grid ∙ c.if-off_grid.false) (bits-false k two c.if-e-eq2.false)))))
+    let r = c.from_residual-in_err-value-in-Bend in
+    let p = err_from_is_err_and r.result r.ensures.1 in
+    let fx : SFits w64 c.in-Bend.place.x = search rules in
+    let fy : SFits w64 c.in-Bend.place.y = search rules in
+    let k = kept-on _ _ c.in-Bend.place _ c.ok_or.ensures.value c.in_ok-q-in-Bend.was (simp (to_z-of_z fx, to_z-of_z fy) at c.new.ensures) in
+    let v = c.located_value.ensures ∙ ap (located_value (number_of c.in-Bend.method) (seen a.prepared.now.accepted.chart)) k.1 in
+    rw (p.1, p.2) (from-turned (seen a.prepared.now.accepted.chart) a.sections a.e _ c.known.ensures _ _ _ (c.in_ok-section.was ∙ ap Ok c.in-Bend.is) k.0 _ v _ c.in_err-value-in-Bend.was)
+
+pub returns-in_err-n-in-Bend : goal.returns-in_err-n-in-Bend
+returns-in_err-n-in-Bend c =
+    let a = c.args in
+    let r = c.from_residual-in_err-n-in-Bend in
+    let p = err_from_is_err_and r.result r.ensures.1 in
+    let fx : SFits w64 c.in-Bend.place.x = search rules in
+    let fy : SFits w64 c.in-Bend.place.y = search rules in
+    let k = kept-on _ _ c.in-Bend.place _ c.ok_or.ensures.value c.in_ok-q-in-Bend.was (simp (to_z-of_z fx, to_z-of_z fy) at c.new.ensures) in
+    let v = c.located_value.ensures ∙ ap (located_value (number_of c.in-Bend.method) (seen a.prepared.now.accepted.chart)) k.1 in
+    rw (p.1, p.2) (from-charge (seen a.prepared.now.accepted.chart) a.sections a.e _ c.known.ensures _ _ _ (c.in_ok-section.was ∙ ap Ok c.in-Bend.is) k.0 _ v _ c.in_ok-value-in-Bend.was _ _ c.charge.ensures c.in_err-n-in-Bend.was)
+
+pub returns-in_ok-n-in-Bend : goal.returns-in_ok-n-in-Bend
+returns-in_ok-n-in-Bend c =
+    let a = c.args in
+    let fx : SFits w64 c.in-Bend.place.x = search rules in
+    let fy : SFits w64 c.in-Bend.place.y = search rules in
+    let k = kept-on _ _ c.in-Bend.place _ c.ok_or.ensures.value c.in_ok-q-in-Bend.was (simp (to_z-of_z fx, to_z-of_z fy) at c.new.ensures) in
+    let v = c.located_value.ensures ∙ ap (located_value (number_of c.in-Bend.method) (seen a.prepared.now.accepted.chart)) k.1 in
+    from-charge (seen a.prepared.now.accepted.chart) a.sections a.e _ c.known.ensures _ _ _ (c.in_ok-section.was ∙ ap Ok c.in-Bend.is) k.0 _ v _ c.in_ok-value-in-Bend.was _ _ c.charge.ensures c.in_ok-n-in-Bend.was

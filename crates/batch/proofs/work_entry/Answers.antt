@@ -1,47 +1,26 @@
--- `batch::work_entry` meets its contract: the ruling, the verdict, then the answer and the book. Assumes nothing.
-use mathlib.Core.Path.{◌≡◌, sym, ap, subst, ◌∙◌}
-use mathlib.Core.List.{[]}
-use Prim.Native.Nat.{ℕ}
-use Rattle.chart.specs.Chart.{chart_of}
-use Rattle.book.specs.declared.Book.{Book}
-use Rattle.book.specs.Books.{total_wear, count_of}
-use Rattle.entries.specs.declared.Ruling.{Ruling}
-use Rattle.entries.specs.Ruling.{UpTo17, with17, answer_of}
-use Rattle.accounts.specs.Rulings.{Known, known}
-use Rattle.accounts.specs.Batch.{book_verdict, book_change}
-use Rattle.batch.specs.declared.Step.{Step}
+-- `batch::work_entry` meets its contract: what 17 lets pass fits the book and keeps it valid. Assumes nothing.
+use Rattle.std.proofs.Common.{◌≡◌, sym, ap, subst, ◌∙◌, [], Ok}
+use Rattle.chart.specs.Seen.{seen}
+use Rattle.book.specs.Books.{ValidBook}
+use Rattle.entries.specs.Ruling.{Ruling, ruling_says}
+use Rattle.accounts.specs.Batch.{book_change, book_verdict}
 use Rattle.batch.specs.Tables.{on_tables, Changeable}
-use Rattle.batch.specs.Laws.{verdict-up-to-17, verdict-fits}
+use Rattle.batch.specs.Laws.{verdict-fits, verdict-valid}
 use Rattle.batch.proofs.work_entry.Goals as goal
-use Rattle.batch.proofs.work_entry.Goals.{After-verdict-last}
+use Rattle.batch.proofs.work_entry.Goals.{In-Ok}
 
--- the verdict is the definition's
-verdict-is : (c : After-verdict-last) → c.verdict-last.result ≡ book_verdict (on_tables (chart_of c.args.vertices.now c.args.edges.now c.args.faces.now)) [] c.args.book c.args.e
-verdict-is c =
-    let b = c.args.book in
-    c.verdict-last.ensures ∙ ap (with17 (total_wear b) (count_of b)) c.ruling-first.ensures
+-- the accepted entry's verdict
+accepted : (c : In-Ok) → book_verdict (on_tables (seen c.args.prepared.now.accepted.chart)) [] c.args.book.now.book c.args.e ≡ ruling_says (Ok c.in-Ok.change)
+accepted c = sym c.verdict-last.ensures ∙ ap ruling_says c.in-Ok.is
 
-pub verdict-last-requires : goal.verdict-last-requires
-verdict-last-requires c =
+pub changed-requires-clause-fits : goal.changed-requires-clause-fits
+changed-requires-clause-fits c =
     let a = c.args in
-    let d = (chart_of a.vertices.now a.edges.now a.faces.now) in record { fact_1 = c.requires.accepted_2; fact_2 = subst (Known a.book.sections) (sym c.ruling-first.ensures) (known (on_tables d) a.book.sections [] a.e) }
+    let b = a.book.now in
+    subst (Changeable b.book) (accepted (goal.at.changed-requires-clause-fits c).In-Ok) (verdict-fits (on_tables (seen a.prepared.now.accepted.chart)) [] b.book b.valid a.e)
 
-pub answer_of-answer-requires : goal.answer_of-answer-requires
-answer_of-answer-requires c =
+pub changed-requires-clause-valid : goal.changed-requires-clause-valid
+changed-requires-clause-valid c =
     let a = c.args in
-    subst UpTo17 (sym (verdict-is c)) (verdict-up-to-17 (chart_of a.vertices.now a.edges.now a.faces.now) a.book a.e)
-
-pub changed-requires : goal.changed-requires
-changed-requires c =
-    let a = c.args in
-    let d = (chart_of a.vertices.now a.edges.now a.faces.now) in
-    subst (Changeable a.book) (sym (verdict-is (goal.at.changed-requires c).After-verdict-last)) (verdict-fits (on_tables d) [] a.book c.requires.accepted_2 a.e)
-
-pub returns : goal.returns
-returns c =
-    let v = (goal.at.returns c).After-verdict-last in
-    let b = c.args.book in
-    let w : Ruling → Step = λ r. record { answer = answer_of r; book = book_change b r } in
-    let g : ℕ → Book → Step = λ n x. record { answer = n; book = x } in
-    ap (λ (n : ℕ). g n c.changed.result) c.answer_of-answer.ensures
-    ∙ (ap (g (answer_of c.verdict-last.result)) c.changed.ensures ∙ ap w (verdict-is v))
+    let b = a.book.now in
+    subst (λ (r : Ruling). ValidBook (book_change b.book r)) (accepted (goal.at.changed-requires-clause-valid c).In-Ok) (verdict-valid (on_tables (seen a.prepared.now.accepted.chart)) [] b.book b.valid a.e)

@@ -4,7 +4,7 @@ use lib.Ieee.{binary64, of_int, lt, add}
 use Rattle.charge.specs.Charging.{charge_max}
 use Rattle.charge.proofs.Tests.{OnScale, in-range, too-low, too-high, refused, cut-asks, cut-le, castable, half, middle, cost-lo, cost-hi}
 use Rattle.charge.proofs.charge.Goals as goal
-use Rattle.charge.proofs.charge.Goals.{After-truncating_f64_to_u64-whole, Then-value-2}
+use Rattle.charge.proofs.charge.Goals.{After-truncating_f64_to_u64-whole, Then-value-2, else-value-via-then-value+else-value-2, else-value-via-else-value}
 
 -- where the two tests held
 range : (c : Then-value-2) → OnScale c.args.value
@@ -33,14 +33,16 @@ returns-then-value-half c =
 pub overflow_add-result : goal.overflow_add-result
 overflow_add-result c = let h = small (goal.at.overflow_add-result c).After-truncating_f64_to_u64-whole in omega arith
 
-pub returns-then-value-2 : goal.returns-then-value-2
-returns-then-value-2 c =
+pub returns-else-value-half : goal.returns-else-value-half
+returns-else-value-half c =
     let s = c.before.before in
     let v = s.args.value in
-    rw s.truncating_f64_to_u64-whole.ensures (cost-hi v (range (goal.at.returns-then-value-2 c).Then-value-2) (ap (lt v) (sym (sum_is (goal.at.returns-then-value-2 c).After-truncating_f64_to_u64-whole)) ∙ c.if-value-half.false))
-
-pub returns-else-value-2 : goal.returns-else-value-2
-returns-else-value-2 c = let v = c.args.value in refused v (too-high v c.if-value-2.false)
+    rw s.truncating_f64_to_u64-whole.ensures (cost-hi v (range (goal.at.returns-else-value-half c).Then-value-2) (ap (lt v) (sym (sum_is (goal.at.returns-else-value-half c).After-truncating_f64_to_u64-whole)) ∙ c.if-value-half.false))
 
 pub returns-else-value : goal.returns-else-value
-returns-else-value c = let v = c.args.value in refused v (too-low v c.if-value.false)
+returns-else-value c =
+    let v = c.args.value in
+    elim c.else-value.branch [
+      | else-value-via-then-value+else-value-2 w ↦ refused v (too-high v w.if-value-2.false)
+      | else-value-via-else-value w ↦ refused v (too-low v w.if-value.false)
+    ]

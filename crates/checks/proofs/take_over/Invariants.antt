@@ -1,12 +1,7 @@
--- `checks::take_over` meets its contract. The loop's invariant: the numbers passed are taken over. Assumes nothing.
-use Prim.Native.Nat.{◌≤◌, ◌-◌}
-use mathlib.Core.Path.{◌≡◌}
-use lib.ListN.{length, take}
-use Rattle.chart.specs.Tables.{unsigned_all}
+-- The loop's invariant: the numbers passed are taken over.
+use Rattle.std.proofs.Common.{◌≡◌, ℕ, ◌<◌, get_or, pos}
+use Rattle.chart.specs.Tables.{unsigned}
 use Rattle.checks.proofs.take_over.Given as goal
 
 abbrev pub invariant-loop-i : goal.invariant-loop-i
-invariant-loop-i l = (l.i ≤ length l.signed) × (length l.table ≡ length l.initial.table) × (take l.i l.table ≡ take l.i (unsigned_all l.signed))
-
-abbrev pub decreases-loop-i : goal.decreases-loop-i
-decreases-loop-i l = length l.signed - l.i
+invariant-loop-i l = (k : ℕ) → k < l.i → get_or l.table k 0 ≡ unsigned (get_or l.signed k (pos 0))

@@ -1,81 +1,82 @@
-use mathlib.Core.Path.{◌≡◌, sym, ap, ◌∙◌}
-use mathlib.Core.Bool.{true}
-use mathlib.Core.List.{[]}
-use Prim.Native.Nat.{ℕ, ◌-◌, ◌<◌}
-use native.Mathlib.Omega.{arith}
-use Rattle.faceset.specs.Set.{add, has}
-use Rattle.chart.specs.Tables.{rows}
-use Rattle.chart.specs.Chart.{chart_of}
-use Rattle.flips.specs.Search.{found, should_flip}
-use Rattle.flips.specs.Laws.{e1-in, e2-in}
-use Rattle.flips.proofs.Steps.{border, opened, opened-less, begun, reached}
+use Rattle.std.proofs.Common.{arith, sym, subst, ap, ◌∙◌, ◌≡◌, ℕ, suc, ◌<◌, List, ◌∷◌, reverse, true}
+use Rattle.std.proofs.lemmas.List.{length-reverse}
+use Rattle.faceset.specs.Set.{has, add}
+use Rattle.geometry.specs.Grid.{at}
+use Rattle.chart.specs.Seen.{seen}
+use Rattle.flips.specs.Search.{Found, should_flip, found, inspect_all, free}
+use Rattle.flips.proofs.Steps.{Held, top-in, border, fewer, opens, snoc, two-snoc, emptied}
 use Rattle.flips.proofs.inspect_flips.Goals as goal
-use Rattle.flips.proofs.inspect_flips.Goals.{After-wide-h, Then-should_flip}
+use Rattle.flips.proofs.inspect_flips.Goals.{In-Some, Then-should_flip, After-insert-opened}
 
--- the half-edge read off the top is one of the chart
-top_in : (c : After-wide-h) → c.wide-h.result < rows c.args.edges.now
-top_in c =
-    let l = c.loop-len in
-    rw c.wide-h.ensures (l.invariant.in-range (l.len - 1) (omega (arith, c.loop-len-test.true)))
+abbrev sought : In-Some → Found
+sought c = inspect_all (seen c.args.chart.now) (at c.args.q) (reverse c.args.waiting.now.items) (found (has c.args.start.words) c.args.out.now.items)
 
--- its face is to be opened
-flips : (c : Then-should_flip) → should_flip (chart_of c.args.vertices.now c.args.edges.now c.args.faces.now) c.args.q (has c.loop-len.opened.words) c.wide-h.result ≡ true
+-- with h taken off the stack
+taken : (c : In-Some) → Held (seen c.args.chart.now) (at c.args.q) (sought c) (has c.loop-h.opened.words) c.loop-h.out.items (c.in-Some.h ∷ reverse c.pop.new.self.items)
+taken c =
+    subst (λ (s : List ℕ). Held (seen c.args.chart.now) (at c.args.q) (sought c) (has c.loop-h.opened.words) c.loop-h.out.items s)
+    (ap reverse c.in-Some.ensures.items ∙ snoc c.pop.new.self.items c.in-Some.h) c.loop-h.invariant
+
+-- it is one of the chart
+taken-in : (c : In-Some) → c.in-Some.h < (seen c.args.chart.now).half_edges
+taken-in c = top-in (seen c.args.chart.now) (at c.args.q) c.args.chart.now.in_range (sought c) (has c.loop-h.opened.words) c.loop-h.out.items c.in-Some.h (reverse c.pop.new.self.items) (taken c)
+
+flips : (c : Then-should_flip) → should_flip (seen c.args.chart.now) (at c.args.q) (has c.loop-h.opened.words) c.in-Some.h ≡ true
 flips c = sym c.should_flip.ensures ∙ c.if-should_flip.true
 
-pub loop-len-init : goal.loop-len-init
-loop-len-init c = begun _ _ _ _ _ _ c.requires.ready
+-- its face is opened, and there is one fewer to open
+one-fewer : (c : Then-should_flip) → suc (free (seen c.args.chart.now) (add ((seen c.args.chart.now).face c.in-Some.h) (has c.loop-h.opened.words))) ≡ free (seen c.args.chart.now) (has c.loop-h.opened.words)
+one-fewer c =
+    let d = (goal.at.Then-should_flip c).In-Some in
+    fewer (seen c.args.chart.now) (at c.args.q) c.args.chart.now.in_range (sought d) (has c.loop-h.opened.words) c.loop-h.out.items c.in-Some.h (reverse c.pop.new.self.items) (taken d) (flips c)
 
-pub should_flip-requires : goal.should_flip-requires
-should_flip-requires c = let s = c in record { fact_1 = s.requires.in_range_1; fact_2 = s.requires.in_range_2; fact_3 = top_in c; fact_4 = s.requires.roomy.faces-few }
+pub should_flip-requires-clause-below : goal.should_flip-requires-clause-below
+should_flip-requires-clause-below c = taken-in c
 
-pub face_of-requires : goal.face_of-requires
-face_of-requires c = top_in (goal.at.face_of-requires c).After-wide-h
+pub face-requires : goal.face-requires
+face-requires c = taken-in (goal.at.face-requires c).In-Some
 
-pub insert-opened-requires : goal.insert-opened-requires
-insert-opened-requires c = let s = c in omega (arith, s.requires.in_range_1.face-numbers _ (top_in (goal.at.insert-opened-requires c).After-wide-h), s.requires.roomy.faces-few)
+pub behind_next-e1-requires : goal.behind_next-e1-requires
+behind_next-e1-requires c = taken-in (goal.at.behind_next-e1-requires c).In-Some
 
-pub behind_next-requires : goal.behind_next-requires
-behind_next-requires c = record { fact_1 = c.requires.in_range_1; fact_2 = top_in (goal.at.behind_next-requires c).After-wide-h }
+pub behind_prev-e2-requires : goal.behind_prev-e2-requires
+behind_prev-e2-requires c = taken-in (goal.at.behind_prev-e2-requires c).In-Some
 
-pub narrow-e1-requires : goal.narrow-e1-requires
-narrow-e1-requires c = let s = c in omega (arith, e1-in _ s.args.q s.requires.in_range_1 _ (top_in (goal.at.narrow-e1-requires c).After-wide-h), s.requires.roomy.edges_few, c.behind_next.ensures)
+pub push-requires-then-should_flip : goal.push-requires-then-should_flip
+push-requires-then-should_flip c =
+    let t = taken (goal.at.push-requires-then-should_flip c).In-Some in
+    let f = one-fewer (goal.at.push-requires-then-should_flip c).Then-should_flip in
+    (omega arith, omega (arith, t.ready.fits, f, length-reverse c.pop.new.self.items, c.push.ensures.len, c.requires.few))
 
-pub behind_prev-requires : goal.behind_prev-requires
-behind_prev-requires c = record { fact_1 = c.requires.in_range_1; fact_2 = top_in (goal.at.behind_prev-requires c).After-wide-h }
+pub loop-h-smaller-then-should_flip : goal.loop-h-smaller-then-should_flip
+loop-h-smaller-then-should_flip c =
+    let f = one-fewer (goal.at.loop-h-smaller-then-should_flip c).Then-should_flip in
+    rw (c.insert-opened.ensures, c.face.ensures.value) (omega (arith, f, c.push-then-should_flip.ensures.len, c.push.ensures.len, c.in-Some.ensures.len))
 
-pub narrow-e2-requires : goal.narrow-e2-requires
-narrow-e2-requires c = let s = c in omega (arith, e2-in _ s.args.q s.requires.in_range_1 _ (top_in (goal.at.narrow-e2-requires c).After-wide-h), s.requires.roomy.edges_few, c.behind_prev.ensures)
+pub loop-h-preserved-then-should_flip : goal.loop-h-preserved-then-should_flip
+loop-h-preserved-then-should_flip c =
+    let d = (goal.at.loop-h-preserved-then-should_flip c).In-Some in
+    let o = opens (seen c.args.chart.now) (at c.args.q) c.args.chart.now.in_range (sought d) (has c.loop-h.opened.words) c.loop-h.out.items c.in-Some.h (reverse c.pop.new.self.items) (taken d) (flips (goal.at.loop-h-preserved-then-should_flip c).Then-should_flip) in
+    rw (
+      c.insert-opened.ensures,
+      c.face.ensures.value,
+      two-snoc c.pop.new.self.items c.push.new.self.items c.push-then-should_flip.new.self.items _ _ c.push.ensures.items c.push-then-should_flip.ensures.items,
+      c.behind_next-e1.ensures.value,
+      c.behind_prev-e2.ensures.value,
+    )
+    o
 
-pub loop-len-smaller-then-should_flip : goal.loop-len-smaller-then-should_flip
-loop-len-smaller-then-should_flip c =
-    let t = (goal.at.loop-len-smaller-then-should_flip c).Then-should_flip in
-    let l = c.loop-len in
-    opened-less _ c.args.q c.requires.in_range_1 (found (has l.opened.words) []) [] l.len _ (has l.opened.words) (has c.insert-opened.result.words) c.loop-len-test.true
-    (top_in (goal.at.loop-len-smaller-then-should_flip c).After-wide-h) (flips t) (c.insert-opened.ensures ∙ ap (λ (f : ℕ). add f (has l.opened.words)) c.face_of.ensures)
+pub partner-requires : goal.partner-requires
+partner-requires c = taken-in (goal.at.partner-requires c).In-Some
 
-pub loop-len-preserved-then-should_flip : goal.loop-len-preserved-then-should_flip
-loop-len-preserved-then-should_flip c =
-    let t = (goal.at.loop-len-preserved-then-should_flip c).Then-should_flip in
-    let l = c.loop-len in
-    opened _ _ c.requires.in_range_1 _ _ l.out l.waiting l.len t.wide-h.result (has l.opened.words) (has c.insert-opened.result.words) l.n c.narrow-e1.result c.narrow-e2.result c.requires.roomy.faces-few l.invariant c.loop-len-test.true
-    t.wide-h.ensures (flips t) (c.insert-opened.ensures ∙ ap (λ (f : ℕ). add f (has l.opened.words)) c.face_of.ensures)
-    (c.narrow-e1.ensures ∙ c.behind_next.ensures) (c.narrow-e2.ensures ∙ c.behind_prev.ensures)
+pub loop-h-preserved : goal.loop-h-preserved
+loop-h-preserved c =
+    let d = (goal.at.loop-h-preserved c).In-Some in
+    let b = border (seen c.args.chart.now) (at c.args.q) c.args.chart.now.in_range (sought d) (has c.loop-h.opened.words) c.loop-h.out.items c.in-Some.h (reverse c.pop.new.self.items) (taken d) (sym c.should_flip.ensures ∙ c.if-should_flip.false) in
+    rw (c.push-else-should_flip.ensures.items, c.partner.ensures.value) b
 
-pub partner_of-requires : goal.partner_of-requires
-partner_of-requires c = let s = c in omega (arith, top_in (goal.at.partner_of-requires c).After-wide-h, s.requires.roomy.edges_few)
-
-pub bounds-out-n : goal.bounds-out-n
-bounds-out-n c = omega (arith, c.loop-len.invariant.fits, c.loop-len.invariant.long, c.requires.roomy.faces-edges, c.requires.roomy.room_in, c.loop-len-test.true)
-
-pub loop-len-preserved : goal.loop-len-preserved
-loop-len-preserved c =
-    let l = c.loop-len in
-    border _ _ c.requires.in_range_1 _ _ l.out l.waiting l.len c.wide-h.result (has l.opened.words) l.n c.partner_of.result l.invariant c.loop-len-test.true
-    c.wide-h.ensures (sym c.should_flip.ensures ∙ c.if-should_flip.false) c.partner_of.ensures
-    (omega (arith, l.invariant.fits, l.invariant.long, c.requires.roomy.faces-edges, c.requires.roomy.room_in))
-
-pub returns : goal.returns
-returns c =
-    let s = c.before.before.before.before.before in
-    let l = c.loop-len in
-    reached _ _ _ _ _ l.waiting _ l.out _ l.len l.n s.requires.roomy l.invariant c.loop-len-test.false
+pub returns-clause-runs : goal.returns-clause-runs
+unfolding inspect_all
+returns-clause-runs c =
+    sym c.loop-h.invariant.runs
+    ∙ ap (λ (s : List ℕ). inspect_all (seen c.args.chart.now) (at c.args.q) s (found (has c.loop-h.opened.words) c.loop-h.out.items)) (emptied c.loop-h.waiting.items c.in_default.ensures.variant.1)

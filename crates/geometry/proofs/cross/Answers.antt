@@ -3,24 +3,10 @@ use Rattle.whole.specs.Bound.{sub_in, mul_in, fits, back}
 use Rattle.geometry.specs.Plane.{cross_of}
 use Rattle.geometry.proofs.cross.Goals as goal
 
-pub overflow_mul-result : goal.overflow_mul-result
-overflow_mul-result c =
-    let u = c.requires.fact_1 in
-    let v = c.requires.fact_2 in
-    simp (back u.x-in tt, back v.y-in tt) (fits (mul_in u.x-in v.y-in) tt)
-
-pub overflow_mul-result-2 : goal.overflow_mul-result-2
-overflow_mul-result-2 c =
-    let s = c.before.before.before.before.before.before.before.before in
-    let u = s.requires.fact_1 in
-    let v = s.requires.fact_2 in
-    simp (back u.y-in tt, back v.x-in tt) (fits (mul_in u.y-in v.x-in) tt)
-
 pub overflow_sub-result : goal.overflow_sub-result
 overflow_sub-result c =
-    let s = c.before.before.before.before.before.before.before.before in
-    let u = s.requires.fact_1 in
-    let v = s.requires.fact_2 in
+    let u = c.requires.first in
+    let v = c.requires.second in
     let x = mul_in u.x-in v.y-in in
     let y = mul_in u.y-in v.x-in in
     simp
@@ -30,9 +16,8 @@ overflow_sub-result c =
 pub returns : goal.returns
 unfolding cross_of
 returns c =
-    let s = c.before.before.before.before.before.before.before.before in
-    let u = s.requires.fact_1 in
-    let v = s.requires.fact_2 in
+    let u = c.requires.first in
+    let v = c.requires.second in
     let x = mul_in u.x-in v.y-in in
     let y = mul_in u.y-in v.x-in in
     simp (

@@ -3,24 +3,10 @@ use Rattle.whole.specs.Bound.{add-in, mul_in, fits, back}
 use Rattle.geometry.specs.Plane.{dot_of}
 use Rattle.geometry.proofs.dot.Goals as goal
 
-pub overflow_mul-result : goal.overflow_mul-result
-overflow_mul-result c =
-    let u = c.requires.fact_1 in
-    let v = c.requires.fact_2 in
-    simp (back u.x-in tt, back v.x-in tt) (fits (mul_in u.x-in v.x-in) tt)
-
-pub overflow_mul-result-2 : goal.overflow_mul-result-2
-overflow_mul-result-2 c =
-    let s = c.before.before.before.before.before.before.before.before in
-    let u = s.requires.fact_1 in
-    let v = s.requires.fact_2 in
-    simp (back u.y-in tt, back v.y-in tt) (fits (mul_in u.y-in v.y-in) tt)
-
 pub overflow_add-result : goal.overflow_add-result
 overflow_add-result c =
-    let s = c.before.before.before.before.before.before.before.before in
-    let u = s.requires.fact_1 in
-    let v = s.requires.fact_2 in
+    let u = c.requires.first in
+    let v = c.requires.second in
     let x = mul_in u.x-in v.x-in in
     let y = mul_in u.y-in v.y-in in
     simp
@@ -30,9 +16,8 @@ overflow_add-result c =
 pub returns : goal.returns
 unfolding dot_of
 returns c =
-    let s = c.before.before.before.before.before.before.before.before in
-    let u = s.requires.fact_1 in
-    let v = s.requires.fact_2 in
+    let u = c.requires.first in
+    let v = c.requires.second in
     let x = mul_in u.x-in v.x-in in
     let y = mul_in u.y-in v.y-in in
     simp (

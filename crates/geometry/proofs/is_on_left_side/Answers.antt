@@ -5,5 +5,4 @@ use Rattle.geometry.proofs.is_on_left_side.Goals as goal
 
 pub returns : goal.returns
 returns c =
-    let s = c.before in
-    simp (c.side_query.ensures, back (side-in s.requires.fact_1 s.requires.fact_2 s.requires.fact_3) tt)
+    simp (c.side_query.ensures, back (side-in c.args.a.on_grid c.args.b.on_grid c.args.q.on_grid) tt)

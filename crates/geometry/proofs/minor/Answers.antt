@@ -5,16 +5,16 @@ use Rattle.geometry.proofs.minor.Goals as goal
 
 pub overflow_sub-result : goal.overflow_sub-result
 overflow_sub-result c =
-    let s = c.requires.fact_1 in
-    let d = c.requires.fact_2 in
-    let t = c.requires.fact_3 in
-    let e = c.requires.fact_4 in
+    let s = c.requires.s_in in
+    let d = c.requires.d_in in
+    let t = c.requires.t_in in
+    let e = c.requires.e_in in
     simp (back s tt, back d tt, back t tt, back e tt, back (mul_in s d) tt, back (mul_in t e) tt) (fits (minor-in s d t e) tt)
 
 pub returns : goal.returns
 returns c =
-    let s = c.requires.fact_1 in
-    let d = c.requires.fact_2 in
-    let t = c.requires.fact_3 in
-    let e = c.requires.fact_4 in
+    let s = c.requires.s_in in
+    let d = c.requires.d_in in
+    let t = c.requires.t_in in
+    let e = c.requires.e_in in
     simp (back s tt, back d tt, back t tt, back e tt, back (mul_in s d) tt, back (mul_in t e) tt, back (minor-in s d t e) tt)

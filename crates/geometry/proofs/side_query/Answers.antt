@@ -6,10 +6,9 @@ use Rattle.geometry.proofs.side_query.Goals as goal
 pub returns : goal.returns
 unfolding side
 returns c =
-    let s = c.before.before.before in
     simp (
       c.cross.ensures,
       c.vector.ensures,
       c.vector-2.ensures,
-      back (side-in s.requires.fact_1 s.requires.fact_2 s.requires.fact_3) tt,
+      back (side-in c.args.a.on_grid c.args.b.on_grid c.args.q.on_grid) tt,
     )

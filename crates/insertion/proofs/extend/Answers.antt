@@ -1,33 +1,37 @@
--- `insertion::extend` meets its contract: the chart's refusals, then 13 and 25, then 26. Assumes nothing.
-use mathlib.Core.Path.{sym, subst, ap, ◌∙◌}
-use native.Mathlib.Omega.{arith}
-use lib.IntN.{ℤ}
+use Rattle.std.proofs.Common.{rules, ap, ◌∙◌, ℤ}
+use Rattle.std.proofs.lemmas.Result.{err_from_is_err_and}
 use mir.Facts.{to_z-of_z}
-use Rattle.sites.specs.Askable.{Askable, ask_refusal}
-use Rattle.insertion.specs.Extend.{front_of, Grew, extend-refused, extend-accepted, extend-askable, extend-asked, extend-grew}
+use Rattle.sites.specs.Askable.{ask_refusal}
+use Rattle.insertion.proofs.Read.{load-not, ask-not, site-not, read-accepted, extended}
 use Rattle.insertion.proofs.extend.Goals as goal
 
-pub returns-then-refusal-ne0 : goal.returns-then-refusal-ne0
-returns-then-refusal-ne0 c =
-    let l = c.load-refusal in
-    extend-refused c.args.v c.args.e c.args.f c.args.text.now c.args.q c.args.value c.requires.fact_1 l.result l.new.vertices l.new.edges l.new.faces l.ensures l.new.vertices l.new.edges l.new.faces c.if-refusal-ne0.true
+pub returns-in_err-load : goal.returns-in_err-load
+returns-in_err-load c =
+    let p = err_from_is_err_and c.from_residual.result c.from_residual.ensures.1 in
+    rw (p.1, p.2) (load-not _ _ _ _ _ _ _ c.in_err-load.ensures)
 
-pub returns-then-asked-ne0 : goal.returns-then-asked-ne0
-returns-then-asked-ne0 c =
-    let l = c.load-refusal in
-    extend-asked c.args.v c.args.e c.args.f c.args.text.now c.args.q c.args.value c.requires.fact_1 l.result l.new.vertices l.new.edges l.new.faces l.ensures c.if-refusal-ne0.false (let x = c.requires.fact_2.v-room in let y = c.requires.fact_1.v-most in let w = l.auto.vertices in omega arith) c.ask-asked.result (c.ask-asked.ensures ∙ ap (λ (z : ℤ). ask_refusal c.args.q z c.args.v) (to_z-of_z c.ranges.value)) l.new.vertices l.new.edges l.new.faces c.if-asked-ne0.true
+pub returns-in_err-place : goal.returns-in_err-place
+returns-in_err-place c =
+    let p = err_from_is_err_and c.from_residual-in_err-place.result c.from_residual-in_err-place.ensures.1 in
+    rw (p.1, p.2)
+    (ask-not record { vertices = c.load.new.vertices; edges = c.load.new.edges; faces = c.load.new.faces; counts = c.args.counts } (search rules) (search rules) (search rules) _ _ _ c.in_ok-load.ensures _
+    (c.in_err-place.ensures.refusal ∙ ap (λ (z : ℤ). ask_refusal c.args.q z c.args.counts.vertices) (to_z-of_z c.ranges.value)))
 
-pub grow-requires : goal.grow-requires
-grow-requires c =
-    let l = c.load-refusal in
-    let i = c.if-refusal-ne0 in
-    let a = c.ask-asked in
-    let r = c.requires.fact_2 in record { fact_1 = record { v-room = l.auto.vertices ∙ r.v-room; e-room = l.auto.edges ∙ r.e-room; f-room = l.auto.faces ∙ r.f-room; v-few = r.v-few; e-few = r.e-few; f-few = r.f-few }; fact_2 = extend-accepted c.args.v c.args.e c.args.f c.args.text.now c.args.q c.args.value c.requires.fact_1 l.result l.new.vertices l.new.edges l.new.faces l.ensures i.false; fact_3 = subst (λ (z : ℤ). Askable (front_of c.args.v c.args.e c.args.f l.new.vertices l.new.edges l.new.faces) c.args.q z) (sym (to_z-of_z c.ranges.value)) (extend-askable c.args.v c.args.e c.args.f c.args.text.now c.args.q c.args.value c.requires.fact_1 l.result l.new.vertices l.new.edges l.new.faces l.ensures i.false (let x = c.requires.fact_2.v-room in let y = c.requires.fact_1.v-most in let w = l.auto.vertices in omega arith) a.result (a.ensures ∙ ap (λ (z : ℤ). ask_refusal c.args.q z c.args.v) (to_z-of_z c.ranges.value)) c.if-asked-ne0.false) }
+pub insert_vertex-requires-clause-accepted : goal.insert_vertex-requires-clause-accepted
+insert_vertex-requires-clause-accepted c =
+    read-accepted record { vertices = c.load.new.vertices; edges = c.load.new.edges; faces = c.load.new.faces; counts = c.args.counts } (search rules) (search rules) (search rules) _ c.args.q c.args.value c.in_ok-load.ensures
+
+pub returns-in_err-insert_vertex : goal.returns-in_err-insert_vertex
+returns-in_err-insert_vertex c =
+    let p = err_from_is_err_and c.from_residual-in_err-insert_vertex.result c.from_residual-in_err-insert_vertex.ensures.1 in
+    let k = c.in_ok-place.ensures in
+    rw (p.1, p.2)
+    (site-not record { vertices = c.load.new.vertices; edges = c.load.new.edges; faces = c.load.new.faces; counts = c.args.counts } (search rules) (search rules) (search rules) _ _ _ c.in_ok-load.ensures _ _ k.place (to_z-of_z c.ranges.value) k.refusal
+    _ c.in_err-insert_vertex.ensures.refusal)
 
 pub returns : goal.returns
 returns c =
-    let l = c.load-refusal in
-    let a = c.ask-asked in
-    let g = c.grow in
-    extend-grew c.args.v c.args.e c.args.f c.args.text.now c.args.q c.args.value c.requires.fact_1 l.result l.new.vertices l.new.edges l.new.faces l.ensures c.if-refusal-ne0.false (let x = c.requires.fact_2.v-room in let y = c.requires.fact_1.v-most in let w = l.auto.vertices in omega arith) a.result (a.ensures ∙ ap (λ (z : ℤ). ask_refusal c.args.q z c.args.v) (to_z-of_z c.ranges.value)) g.result g.new.vertices g.new.edges g.new.faces c.if-asked-ne0.false
-    (subst (λ (z : ℤ). Grew c.args.v c.args.e c.args.f c.args.q z l.new.vertices l.new.edges l.new.faces g.result g.new.vertices g.new.edges g.new.faces) (to_z-of_z c.ranges.value) g.ensures)
+    let k = c.in_ok-place.ensures in
+    let n = c.in_ok-insert_vertex.ensures in
+    extended record { vertices = c.load.new.vertices; edges = c.load.new.edges; faces = c.load.new.faces; counts = c.args.counts } (search rules) (search rules) (search rules) _ _ _ c.in_ok-load.ensures _ _ k.place (to_z-of_z c.ranges.value) k.refusal
+    c.insert_vertex.new.tables n.refusal n.joined n.outs

@@ -1,43 +1,41 @@
--- `insertion::insert_vertex` meets its contract: one case of the site after the other. Assumes nothing.
-use mathlib.Core.Path.{sym, subst, ◌∙◌}
-use Prim.Native.Nat.{◌*◌}
-use native.Mathlib.Omega.{arith}
-use lib.IntN.{ℤ}
-use lib.Seq.{length-take-le}
+use Rattle.std.proofs.Common.{rules, ap, ◌∙◌}
+use Rattle.std.proofs.lemmas.Result.{err_from_is_err_and}
 use mir.Facts.{to_z-of_z}
-use Rattle.chart.specs.Chart.{Chart, chart_of}
-use Rattle.rewire.specs.Grown.{old_of}
-use Rattle.sites.specs.Site.{face-site, edge-site}
-use Rattle.sites.specs.Joined.{Joined}
-use Rattle.insertion.specs.Outcome.{went-inside, went-across, stayed}
+use Rattle.geometry.specs.Grid.{at}
+use Rattle.rewire.specs.Tables.{new_then}
+use Rattle.rewire.specs.Front.{shown}
+use Rattle.insertion.specs.Outcome.{joined_at}
+use Rattle.insertion.proofs.Outcome.{stands, joined-range, joined-growing, joined-legal, room-of, shown-vertices, seen-site, site-refusal}
 use Rattle.insertion.proofs.insert_vertex.Goals as goal
 
-pub slice_bounds-site_at-end-2 : goal.slice_bounds-site_at-end-2
-slice_bounds-site_at-end-2 c = let e = c.requires.fact_1.v-long in sym (length-take-le (4 * c.args.n) c.args.vertices.now (omega arith))
+pub returns-in_err-site-clause-refusal : goal.returns-in_err-site-clause-refusal
+returns-in_err-site-clause-refusal c =
+    let p = err_from_is_err_and c.from_residual.result c.from_residual.ensures.1 in
+    rw (p.1, p.2) (site-refusal _ _ (seen-site _ _ _ _ _ c.chart.ensures.shown c.site_at.ensures c.in_err-site.was))
 
-pub slice_bounds-site_at-end-4 : goal.slice_bounds-site_at-end-4
-slice_bounds-site_at-end-4 c = let e = c.requires.fact_1.e-long in sym (length-take-le (4 * c.args.h) c.args.edges.now (omega arith))
+pub join-requires-clause-room : goal.join-requires-clause-room
+join-requires-clause-room c = room-of c.args.tables.now (search rules) (search rules) (search rules) c.requires.accepted c.requires.askable.few
 
-pub slice_bounds-site_at-end-6 : goal.slice_bounds-site_at-end-6
-slice_bounds-site_at-end-6 c = let e = c.requires.fact_1.f-long in sym (length-take-le c.args.f c.args.faces.now (omega arith))
+pub join-requires-clause-stands : goal.join-requires-clause-stands
+join-requires-clause-stands c = stands _ c.requires.accepted _ _ (seen-site _ _ _ _ _ c.chart.ensures.shown c.site_at.ensures c.in_ok-site.was)
 
-pub insert_in_face-requires-clause-fact_4 : goal.insert_in_face-requires-clause-fact_4
-insert_in_face-requires-clause-fact_4 c = face-site (old_of c.args.vertices.now c.args.edges.now c.args.faces.now c.args.n c.args.h c.args.f) c.requires.fact_2 c.args.q c.in-Inside.e (sym c.site_at-site.ensures ∙ c.in-Inside.is)
+pub legalize-requires-clause-in_range : goal.legalize-requires-clause-in_range
+legalize-requires-clause-in_range c =
+    joined-range _ c.requires.accepted _ _ c.requires.askable _ _ (shown-vertices c.args.tables.now (search rules) (search rules) (search rules)) _ (seen-site _ _ _ _ _ c.chart.ensures.shown c.site_at.ensures c.in_ok-site.was)
+    (c.join.ensures.joined ∙ ap (joined_at (shown c.args.tables.now) c.in_ok-site.site (at c.args.q)) (to_z-of_z c.ranges.value))
 
-pub insert_on_edge-requires-clause-fact_4 : goal.insert_on_edge-requires-clause-fact_4
-insert_on_edge-requires-clause-fact_4 c = edge-site (old_of c.args.vertices.now c.args.edges.now c.args.faces.now c.args.n c.args.h c.args.f) c.requires.fact_2 c.args.q c.in-Across.e (sym c.site_at-site.ensures ∙ c.in-Across.is)
+pub legalize-requires-clause-growing : goal.legalize-requires-clause-growing
+legalize-requires-clause-growing c =
+    joined-growing _ c.requires.accepted _ _ c.requires.askable _ _ (shown-vertices c.args.tables.now (search rules) (search rules) (search rules)) _ (seen-site _ _ _ _ _ c.chart.ensures.shown c.site_at.ensures c.in_ok-site.was)
+    (c.join.ensures.joined ∙ ap (joined_at (shown c.args.tables.now) c.in_ok-site.site (at c.args.q)) (to_z-of_z c.ranges.value))
 
-pub returns-in-Inside : goal.returns-in-Inside
-returns-in-Inside c =
-    let i = c.insert_in_face in
-    let d : Chart = chart_of i.new.vertices i.new.edges i.new.faces in
-    (went-inside (old_of c.args.vertices.now c.args.edges.now c.args.faces.now c.args.n c.args.h c.args.f) c.args.q c.args.value d _ ((sym c.site_at-site.ensures ∙ c.in-Inside.is)) (subst (λ (z : ℤ). Joined (old_of c.args.vertices.now c.args.edges.now c.args.faces.now c.args.n c.args.h c.args.f) c.args.q z d) (to_z-of_z c.ranges.value) i.ensures.0), i.ensures.1.keeps, λ p. i.ensures.1.new)
+pub returns-clause-refusal : goal.returns-clause-refusal
+returns-clause-refusal c = site-refusal _ _ (seen-site _ _ _ _ _ c.chart.ensures.shown c.site_at.ensures c.in_ok-site.was)
 
-pub returns-in-Across : goal.returns-in-Across
-returns-in-Across c =
-    let i = c.insert_on_edge in
-    let d : Chart = chart_of i.new.vertices i.new.edges i.new.faces in
-    (went-across (old_of c.args.vertices.now c.args.edges.now c.args.faces.now c.args.n c.args.h c.args.f) c.args.q c.args.value d _ ((sym c.site_at-site.ensures ∙ c.in-Across.is)) (subst (λ (z : ℤ). Joined (old_of c.args.vertices.now c.args.edges.now c.args.faces.now c.args.n c.args.h c.args.f) c.args.q z d) (to_z-of_z c.ranges.value) i.ensures.0), i.ensures.1.keeps, λ p. i.ensures.1.new)
+pub returns-clause-joined : goal.returns-clause-joined
+returns-clause-joined c =
+    joined-legal _ c.requires.accepted _ _ c.requires.askable _ _ (shown-vertices c.args.tables.now (search rules) (search rules) (search rules)) _ (seen-site _ _ _ _ _ c.chart.ensures.shown c.site_at.ensures c.in_ok-site.was)
+    (c.join.ensures.joined ∙ ap (joined_at (shown c.args.tables.now) c.in_ok-site.site (at c.args.q)) (to_z-of_z c.ranges.value)) _ c.legalize.ensures.legal
 
-pub returns-in-Nowhere : goal.returns-in-Nowhere
-returns-in-Nowhere c = (stayed (old_of c.args.vertices.now c.args.edges.now c.args.faces.now c.args.n c.args.h c.args.f) c.args.q c.args.value _ (sym c.site_at-site.ensures ∙ c.in-Nowhere.is), λ u o. o, λ p. let o : ⊥ = omega arith in absurd o)
+pub returns-clause-outs : goal.returns-clause-outs
+returns-clause-outs c = new_then _ _ _ _ c.join.ensures.outs c.legalize.ensures.outs

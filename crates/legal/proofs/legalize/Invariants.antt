@@ -1,12 +1,12 @@
--- `legal::legalize` meets its contract: the loop's invariant: reached by flips; each flip adds a half-edge that leaves the vertex. Assumes nothing.
-use Prim.Native.Nat.{◌-◌}
-use Rattle.chart.specs.Tables.{rows}
-use Rattle.chart.specs.Chart.{chart_of}
-use Rattle.legal.specs.Legal.{degree, Turning}
+-- What the flips so far leave; each adds a half-edge that leaves the vertex.
+use Rattle.std.specs.Prelude.{◌-◌}
+use Rattle.rewire.specs.Tables.{KeepsOuts}
+use Rattle.rewire.specs.Front.{shown}
+use Rattle.legal.specs.Legal.{degree, Reached}
 use Rattle.legal.proofs.legalize.Given as goal
 
 abbrev pub invariant-loop-h : goal.invariant-loop-h
-invariant-loop-h l = Turning l.initial.vertices l.initial.edges l.initial.faces l.vertices l.edges l.faces l.n l.h
+invariant-loop-h l = record { reached : Reached (shown l.initial.tables) l.n (shown l.tables); outs : KeepsOuts l.initial.tables.vertices l.tables.vertices }
 
 abbrev pub decreases-loop-h : goal.decreases-loop-h
-decreases-loop-h l = rows l.edges - degree (chart_of l.vertices l.edges l.faces) l.n
+decreases-loop-h l = (shown l.tables).half_edges - degree (shown l.tables) l.n

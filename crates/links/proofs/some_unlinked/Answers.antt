@@ -1,20 +1,9 @@
-use mathlib.Core.Path.{sym, ap, ◌∙◌}
-use mathlib.Core.Bool.{not}
-use native.Mathlib.Nat.{lt_of_lt_of_le, not-suc-le-zero}
-use native.Mathlib.Omega.{arith}
-use borrow.Author.Count.{below_more}
-use Rattle.whole.specs.First.{some_at, some-none}
-use borrow.Author.Rules.{rules}
+use Rattle.std.proofs.Common.{rules, refl}
+use borrow.Author.Tests.{tests}
+use Rattle.whole.proofs.Scans.{some_from_any}
+use Rattle.chart.specs.Seen.{seen}
+use Rattle.links.specs.Links.{unlinked}
 use Rattle.links.proofs.some_unlinked.Goals as goal
 
-pub loop-h-init : goal.loop-h-init
-loop-h-init c = (omega arith, λ k l. absurd (not-suc-le-zero l))
-
-pub returns-then-not-is_linked : goal.returns-then-not-is_linked
-returns-then-not-is_linked c = sym (some_at _ _ _ c.loop-h-test.true (ap not (sym c.is_linked.ensures) ∙ c.if-not-is_linked.true-raw))
-
-pub loop-h-preserved : goal.loop-h-preserved
-loop-h-preserved c = (search rules, below_more _ _ c.loop-h.invariant.1 (ap not (sym c.is_linked.ensures) ∙ c.if-not-is_linked.false-raw))
-
 pub returns : goal.returns
-returns c = sym (some-none _ _ (λ k l. c.loop-h.invariant.1 k (lt_of_lt_of_le l c.loop-h-test.false)))
+returns c = some_from_any (unlinked (seen c.args.chart.now)) _ _ _ _ c.any.ensures.ran refl (search rules) (λ x b q k. search (rules, tests))

@@ -1,35 +1,10 @@
-use Prim.Native.Nat.{◌+◌, ◌<◌}
-use mathlib.Core.Path.{◌≡◌, refl}
-use mathlib.Core.List.{map}
-use native.Mathlib.Omega.{arith}
-use borrow.Author.Rules.{rules}
-use lib.Ieee.{Float, nan}
-use lib.ListN.{length, take, drop, get_or, length-set}
-use lib.Seq.{take_at}
-use Rattle.points.specs.Floats.{◌/f◌}
-use Rattle.natural.specs.Arrays.{written, unwritten, map_next, length-map-take}
+use Rattle.std.proofs.Common.{arith}
+use Rattle.std.specs.Float.{nan}
+use Rattle.natural.specs.Arrays.{put_next, unput}
 use Rattle.natural.proofs.divide_all.Goals as goal
 
-pub loop-i-init : goal.loop-i-init
-loop-i-init c = (search rules, refl, refl)
-
-pub loop-i-preserved : goal.loop-i-preserved
-loop-i-preserved c =
-    let l = c.loop-i in
-    let f : Float → Float = λ area. area /f c.args.total in
-    let a = c.args.areas.now in
-    let h : l.i < length a = omega arith in
-    let k = length-map-take f a l.i (omega arith) in (
-      search rules,
-      simp length-set l.invariant.1,
-      rw (l.invariant.2, unwritten (map f (take l.i a)) a l.i nan k h)
-          (written (map f (take l.i a)) (map f (take (l.i + 1) a)) a l.i (f (get_or a l.i nan)) nan k h (map_next f a l.i nan h)),
-    )
-
-pub returns : goal.returns
-returns c =
-    let l = c.loop-i in
-    let f : Float → Float = λ area. area /f c.args.total in
-    let a = c.args.areas.now in
-    let end : l.i ≡ c.args.n = omega arith in
-    rw (l.invariant.2, end) (take_at (map f (take c.args.n a)) (drop c.args.n a) c.args.n (length-map-take f a c.args.n (omega arith)))
+pub loop-area-preserved : goal.loop-area-preserved
+loop-area-preserved c =
+    let l = c.loop-area in
+    rw (unput _ c.args.areas.now l.areas l.area-index nan (omega arith) l.invariant)
+    (put_next _ c.args.areas.now c.args.areas.now l.areas l.area-index nan nan (omega arith) (omega arith) l.invariant)

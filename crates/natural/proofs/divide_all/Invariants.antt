@@ -1,14 +1,7 @@
--- `natural::divide_all` meets its contract. The loop's invariant: the first i elements are divided, the others not yet. Assumes nothing.
-use Prim.Native.Nat.{◌-◌, ◌≤◌}
-use mathlib.Core.Path.{◌≡◌}
-use mathlib.Core.List.{◌++◌, map}
-use lib.ListN.{length, take, drop}
+-- The loop's invariant: the first areas are divided, the others not yet. Assumes nothing.
+use Rattle.std.proofs.Common.{◌≡◌, ◌++◌, map, take, drop}
 use Rattle.points.specs.Floats.{◌/f◌}
 use Rattle.natural.proofs.divide_all.Given as goal
 
-abbrev pub invariant-loop-i : goal.invariant-loop-i
-invariant-loop-i l =
-    (l.i ≤ l.n) × (length l.areas ≡ length l.initial.areas) × (l.areas ≡ map (λ area. area /f l.total) (take l.i l.initial.areas) ++ drop l.i l.initial.areas)
-
-abbrev pub decreases-loop-i : goal.decreases-loop-i
-decreases-loop-i l = l.n - l.i
+abbrev pub invariant-loop-area : goal.invariant-loop-area
+invariant-loop-area l = l.areas ≡ map (λ area. area /f l.total) (take l.area-index l.initial.areas) ++ drop l.area-index l.initial.areas

@@ -1,69 +1,63 @@
 -- `program::print_entries` meets its contract: the refusal that the batch met is the chart's; without one, its answers and its book are printed.
 use Prim.Native.Nat.{◌+◌, ◌*◌, ◌/◌}
-use mathlib.Core.Path.{◌≡◌, sym, ap, ◌∙◌}
+use mathlib.Core.Path.{◌≡◌, sym, ◌∙◌}
 use native.Mathlib.Omega.{arith}
 use lib.ListN.{length, take}
 use lib.Seq.{length-take-le}
 use Rattle.entries.specs.Entry.{entry_width}
 use Rattle.log_text.specs.Log.{entries_max}
-use Rattle.book.specs.declared.Returned.{Returned}
-use Rattle.accounts.specs.Batch.{outcome, batch_of}
+use Rattle.refusal.specs.Number.{number, number-positive}
 use Rattle.report.specs.Lines.{refusal_bytes, refusal_line, answer_bytes, book_bytes, output_of}
 use Rattle.report.specs.Laws.{refusal-length, output-length}
-use Rattle.estivolh.specs.Account.{queries}
-use Rattle.program.specs.Program.{program_book, ran_of}
+use Rattle.program.specs.Program.{ran_of}
 use Rattle.program.proofs.Laws.{refusal-left, accepted, book-left, answers-left, chart-refused, chart-accepted, put-printed}
 use borrow.Author.Rules.{rules}
 use Rattle.program.proofs.print_entries.Goals as goal
 
-pub returns-then-done-ne0 : goal.returns-then-done-ne0
-returns-then-done-ne0 c =
+pub returns-in-Err : goal.returns-in-Err
+returns-in-Err c =
     let a = c.args in
     let es = a.entries.now in
     let room = c.answer_room-answers.result in
-    let b = c.batch-done in
-    let left = b.new.answers in
-    let w = c.requires.whole in
+    let b = c.batch_on_fresh in
+    let n = c.number.result in
     let k : length room ≡ entries_max = search rules in
-    let e : outcome b.result left ≡ batch_of queries program_book a.chart.now es room =
-    b.ensures ∙ ap (λ (x : Returned). batch_of queries x.book a.chart.now es room) c.fresh-fresh.ensures in
+    let s : n ≡ number c.in-Err.refusal = c.number.ensures in
+    let e = refusal-left a.chart.now es room b.new.answers _ c.requires.whole (omega arith) c.in-Err.ensures in
     let p = c.put_refusal in
-    let n = b.result.refusal in
-    rw (chart-refused a.chart.now es n (sym (refusal-left a.chart.now es room left b.result w (omega arith) e)) c.if-done-ne0.true)
+    rw (chart-refused a.chart.now es n (sym e ∙ sym s) (λ z. omega (arith, s, number-positive c.in-Err.refusal)))
     (put-printed a.out.now (refusal_line n) p.new.out refusal_bytes p.result (refusal-length n) (omega (arith, c.requires.room)) p.auto.out p.ensures.0 p.ensures.1)
 
 pub slice_bounds-put_output-end : goal.slice_bounds-put_output-end
 slice_bounds-put_output-end c =
     let n = length c.args.entries.now / entry_width in
-    let left = c.batch-done.new.answers in
+    let left = c.batch_on_fresh.new.answers in
     let k : length left ≡ entries_max = search rules in
     sym (length-take-le n left (omega arith))
 
 pub put_output-requires : goal.put_output-requires
 put_output-requires c =
     let n = length c.args.entries.now / entry_width in
-    let left = c.batch-done.new.answers in
+    let left = c.batch_on_fresh.new.answers in
     let k : length left ≡ entries_max = search rules in
     omega (arith, length-take-le n left (omega arith))
 
-pub returns : goal.returns
+pub returns-in-Ok : goal.returns-in-Ok
 unfolding ran_of
-returns c =
+returns-in-Ok c =
     let a = c.args in
     let es = a.entries.now in
     let room = c.answer_room-answers.result in
-    let b = c.batch-done in
-    let left = b.new.answers in
+    let left = c.batch_on_fresh.new.answers in
+    let b = c.in-Ok.book in
     let w = c.requires.whole in
     let k : length room ≡ entries_max = search rules in
-    let e : outcome b.result left ≡ batch_of queries program_book a.chart.now es room =
-    b.ensures ∙ ap (λ (x : Returned). batch_of queries x.book a.chart.now es room) c.fresh-fresh.ensures in
+    let e = c.in-Ok.ensures in
     let p = c.put_output in
     let n = length es / entry_width in
     let m : length left ≡ entries_max = search rules in
-    let z = c.if-done-ne0.false in
     let q : length (take n left) ≡ n = length-take-le n left (omega arith) in
-    rw (chart-accepted a.chart.now es (accepted a.chart.now es room left b.result z w (omega arith) e))
-    (rw (answers-left a.chart.now es room left b.result z w (omega arith) e, book-left a.chart.now es room left b.result z w (omega arith) e)
-    at (put-printed a.out.now (output_of (take n left) b.result.book) p.new.out (answer_bytes * length (take n left) + book_bytes) p.result
-    (output-length (take n left) b.result.book) (omega (arith, q, w.few, c.requires.room)) p.auto.out p.ensures.0 p.ensures.1))
+    rw (chart-accepted a.chart.now es (accepted a.chart.now es room left b w (omega arith) e))
+    (rw (answers-left a.chart.now es room left b w (omega arith) e, book-left a.chart.now es room left b w (omega arith) e)
+    at (put-printed a.out.now (output_of (take n left) b) p.new.out (answer_bytes * length (take n left) + book_bytes) p.result
+    (output-length (take n left) b) (omega (arith, q, w.few, c.requires.room)) p.auto.out p.ensures.0 p.ensures.1))

@@ -1,12 +1,6 @@
--- `query::copy_list` meets its contract. The loop's invariant: the elements passed are copied, the others as they were. Assumes nothing.
-use Prim.Native.Nat.{◌≤◌, ◌-◌}
-use mathlib.Core.Path.{◌≡◌}
-use mathlib.Core.List.{◌++◌}
-use lib.ListN.{length, take, drop}
+-- The loop's invariant: the elements passed are copied, the others as they were.
+use Rattle.std.proofs.Common.{◌≡◌, ◌++◌, take, drop}
 use Rattle.query.proofs.copy_list.Given as goal
 
 abbrev pub invariant-loop-i : goal.invariant-loop-i
-invariant-loop-i l = (l.i ≤ length l.list) × (length l.out ≡ length l.initial.out) × (l.out ≡ take l.i l.list ++ drop l.i l.initial.out)
-
-abbrev pub decreases-loop-i : goal.decreases-loop-i
-decreases-loop-i l = length l.list - l.i
+invariant-loop-i l = l.out ≡ take l.i l.list ++ drop l.i l.initial.out

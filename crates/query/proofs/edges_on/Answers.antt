@@ -1,36 +1,18 @@
--- `query::edges_on` meets its contract: 13, the location's refusal, or the edges. Assumes nothing.
-use mathlib.Core.Path.{sym, ◌∙◌}
-use Rattle.geometry.specs.Plane.{on-grid}
-use Rattle.chart.specs.Chart.{chart_of}
+use Rattle.std.proofs.Common.{rules, ◌≡◌, to_z, of_z, w64}
+use Rattle.geometry.specs.Grid.{at}
+use Rattle.chart.specs.Seen.{seen}
 use Rattle.locate.proofs.Laws.{located}
-use Rattle.query.specs.Natural.{edges_on, edges-found, edges-turned}
+use Rattle.query.specs.Natural.{edges_on}
+use Rattle.query.proofs.Grid.{on-it}
 use Rattle.query.proofs.edges_on.Goals as goal
 
-pub returns-then-off_grid : goal.returns-then-off_grid
-unfolding edges_on
-returns-then-off_grid c = rw (sym c.off_grid.ensures ∙ c.if-off_grid.true)
-
-pub locate-place-requires : goal.locate-place-requires
-locate-place-requires c = (c.requires.fact_1.sound.range, (on-grid c.args.q (sym c.off_grid.ensures ∙ c.if-off_grid.false), c.requires.fact_1.counts.e-most))
-
-pub returns-then-refusal-ne0 : goal.returns-then-refusal-ne0
-unfolding edges_on
-returns-then-refusal-ne0 c =
-    let a = c.args in
-    let l = c.locate-place in
-    let n = c.place_refusal-refusal in
-    rw (sym c.off_grid.ensures ∙ c.if-off_grid.false)
-    (rw (← l.ensures, ← n.ensures) (sym (edges-turned n.result (chart_of a.vertices.now a.edges.now a.faces.now) a.q l.result a.out.now c.if-refusal-ne0.true)))
-
-pub edges_at-requires : goal.edges_at-requires
-edges_at-requires c =
-    let a = c.args in record { fact_1 = c.requires.fact_1; fact_2 = on-grid a.q (sym c.off_grid.ensures ∙ c.if-off_grid.false); fact_3 = located _ _ _ c.locate-place.ensures; fact_4 = c.requires.fact_2 }
+pub edges_at-requires-clause-holds : goal.edges_at-requires-clause-holds
+edges_at-requires-clause-holds c = located (seen c.args.accepted.now.chart) (at c.in_ok-q.q) c.locate-place.result c.locate-place.ensures
 
 pub returns : goal.returns
 unfolding edges_on
 returns c =
-    let a = c.args in
-    let l = c.locate-place in
-    let n = c.place_refusal-refusal in
-    rw (sym c.off_grid.ensures ∙ c.if-off_grid.false)
-    (rw (← l.ensures, ← n.ensures) (c.edges_at.ensures ∙ sym (edges-found n.result (chart_of a.vertices.now a.edges.now a.faces.now) a.q l.result a.out.now c.if-refusal-ne0.false)))
+    let x : to_z w64 (of_z w64 c.args.q.x) ≡ c.args.q.x = search rules in
+    let y : to_z w64 (of_z w64 c.args.q.y) ≡ c.args.q.y = search rules in
+    let g = on-it c.args.q c.in_ok-q.q (rw (c.in_ok-q.ensures.ok_part, x, y) at c.new.ensures) in
+    rw (g.0, ← g.1, ← c.locate-place.ensures, ← c.in_ok-place_refusal.ensures) c.edges_at.ensures

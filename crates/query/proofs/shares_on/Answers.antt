@@ -1,38 +1,18 @@
--- `query::shares_on` meets its contract: 13, the location's refusal, or the weights. Assumes nothing.
-use mathlib.Core.Path.{sym, ◌∙◌}
-use Rattle.geometry.specs.Plane.{on-grid}
-use Rattle.chart.specs.Chart.{chart_of}
+use Rattle.std.proofs.Common.{rules, ◌≡◌, to_z, of_z, w64}
+use Rattle.geometry.specs.Grid.{at}
+use Rattle.chart.specs.Seen.{seen}
 use Rattle.locate.proofs.Laws.{located}
-use Rattle.query.specs.Natural.{shares_on, shares-found, shares-turned}
+use Rattle.query.specs.Natural.{shares_on}
+use Rattle.query.proofs.Grid.{on-it}
 use Rattle.query.proofs.shares_on.Goals as goal
 
-pub returns-then-off_grid : goal.returns-then-off_grid
-unfolding shares_on
-returns-then-off_grid c = rw (sym c.off_grid.ensures ∙ c.if-off_grid.true)
-
-pub locate-place-requires : goal.locate-place-requires
-locate-place-requires c = (c.requires.fact_1.sound.range, (on-grid c.args.q (sym c.off_grid.ensures ∙ c.if-off_grid.false), c.requires.fact_1.counts.e-most))
-
-pub returns-then-refusal-ne0 : goal.returns-then-refusal-ne0
-unfolding shares_on
-returns-then-refusal-ne0 c =
-    let a = c.args in
-    let l = c.locate-place in
-    let n = c.place_refusal-refusal in
-    rw (sym c.off_grid.ensures ∙ c.if-off_grid.false)
-    (rw (← l.ensures, ← n.ensures) (sym (shares-turned n.result (chart_of a.vertices.now a.edges.now a.faces.now) a.q l.result a.owners.now a.weights.now c.if-refusal-ne0.true)))
-
-pub shares_at-requires-clause-fact_2 : goal.shares_at-requires-clause-fact_2
-shares_at-requires-clause-fact_2 c = on-grid c.args.q (sym c.off_grid.ensures ∙ c.if-off_grid.false)
-
-pub shares_at-requires-clause-fact_3 : goal.shares_at-requires-clause-fact_3
-shares_at-requires-clause-fact_3 c = located _ _ _ c.locate-place.ensures
+pub shares_at-requires-clause-holds : goal.shares_at-requires-clause-holds
+shares_at-requires-clause-holds c = located (seen c.args.accepted.now.chart) (at c.in_ok-q.q) c.locate-place.result c.locate-place.ensures
 
 pub returns : goal.returns
 unfolding shares_on
 returns c =
-    let a = c.args in
-    let l = c.locate-place in
-    let n = c.place_refusal-refusal in
-    rw (sym c.off_grid.ensures ∙ c.if-off_grid.false)
-    (rw (← l.ensures, ← n.ensures) (c.shares_at.ensures ∙ sym (shares-found n.result (chart_of a.vertices.now a.edges.now a.faces.now) a.q l.result a.owners.now a.weights.now c.if-refusal-ne0.false)))
+    let x : to_z w64 (of_z w64 c.args.q.x) ≡ c.args.q.x = search rules in
+    let y : to_z w64 (of_z w64 c.args.q.y) ≡ c.args.q.y = search rules in
+    let g = on-it c.args.q c.in_ok-q.q (rw (c.in_ok-q.ensures.ok_part, x, y) at c.new.ensures) in
+    rw (g.0, ← g.1, ← c.locate-place.ensures, ← c.in_ok-place_refusal.ensures) c.shares_at.ensures

@@ -24,8 +24,8 @@ returns c =
     rw (to_z_pos w64 {n = rows vs} (omega arith), to_z_pos w64 {n = rows es} (omega arith), to_z_pos w64 {n = length fs} (omega arith)) at c.put_line-a.ensures.1 in
     let x : length c.put_line-a.new.out ≡ length a.out.now = c.put_line-a.auto.out in
     let y : length c.put_table-b.new.out ≡ length a.out.now = c.put_table-b.auto.out ∙ x in (
-      omega (arith, text-length vs es fs pre.vertices_len.0 pre.vertices_len.1, c.put_line-a.ensures.0, c.put_table-b.ensures.0, c.put_table-c.ensures.0, c.put_table.ensures.0),
-      chart-put vs es fs pre.vertices_len.0 pre.vertices_len.1 a.out.now c.put_line-a.new.out c.put_table-b.new.out
-          c.put_table-c.new.out _ c.put_line-a.result c.put_table-b.result c.put_table-c.result pre.faces_in_bounds x y (omega arith)
+      omega (arith, text-length vs es fs pre.whole_rows.0 pre.whole_rows.1, c.put_line-a.ensures.0, c.put_table-b.ensures.0, c.put_table-c.ensures.0, c.put_table.ensures.0),
+      chart-put vs es fs pre.whole_rows.0 pre.whole_rows.1 a.out.now c.put_line-a.new.out c.put_table-b.new.out
+          c.put_table-c.new.out _ c.put_line-a.result c.put_table-b.result c.put_table-c.result pre.room x y (omega arith)
           c.put_table-b.ensures.0 c.put_table-c.ensures.0 l c.put_table-b.ensures.1 c.put_table-c.ensures.1 c.put_table.ensures.1,
     )

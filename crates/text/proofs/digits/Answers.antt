@@ -8,7 +8,4 @@ use Rattle.text.proofs.digits.Goals as goal
 
 pub returns : goal.returns
 unfolding digits_of
-returns c =
-    let s = c.args.field.now in
-    let i = c.spaces-i.result in
-    part-all s i ∙ ap (λ (k : ℕ). drop k s) c.spaces-i.ensures.0
+returns c = part-all c.args.field.now c.spaces.result ∙ ap (λ (k : ℕ). drop k c.args.field.now) c.spaces.ensures.0

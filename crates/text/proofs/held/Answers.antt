@@ -11,9 +11,6 @@ use Rattle.text.proofs.held.Goals as goal
 pub slice_bounds-natural-count : goal.slice_bounds-natural-count
 slice_bounds-natural-count c = minus-some c.args.d.now (sym c.has_minus.ensures ∙ c.if-has_minus.true)
 
-pub slice_bounds-natural-start : goal.slice_bounds-natural-start
-slice_bounds-natural-start c = slice_bounds-natural-count c
-
 pub returns-then-has_minus : goal.returns-then-has_minus
 returns-then-has_minus c = λ s h e.
     let d = c.args.d.now in
@@ -22,9 +19,9 @@ returns-then-has_minus c = λ s h e.
     ∙ ap below_zero (c.natural.ensures ∙ ap (λ (l : List ℕ). number_if (plain l) l) (part-all d 1 ∙ ap (drop 1) (sym e)))
     ∙ sym (field-minus s h (ap (λ (l : List ℕ). eqb (get_or l 0 0) 45) e ∙ m))
 
-pub returns : goal.returns
-returns c = λ s h e.
+pub returns-else-has_minus : goal.returns-else-has_minus
+returns-else-has_minus c = λ s h e.
     let m = sym c.has_minus.ensures ∙ c.if-has_minus.false in
-    c.natural-2.ensures
+    c.natural-else-has_minus.ensures
     ∙ ap (λ (l : List ℕ). number_if (plain l) l) (sym e)
     ∙ sym (field-unsigned s h (ap (λ (l : List ℕ). eqb (get_or l 0 0) 45) e ∙ m))

@@ -1,67 +1,53 @@
-use Prim.Native.Nat.{◌<◌}
-use mathlib.Core.Bool.{true, false}
-use mathlib.Core.List.{[]}
-use mathlib.Core.Path.{◌≡◌, refl, ap, sym, ◌∙◌}
-use native.Mathlib.Omega.{arith}
-use native.Mathlib.Numerals.{add-one}
-use borrow.Author.Tests.{not-true, not-false}
-use lib.ListN.{drop, get_or, drop_of_length-le}
+use Rattle.std.proofs.Common.{◌≡◌, ◌<◌, [], length, drop, get_or, true, false, Some, refl, ap, ◌∙◌, add-one, arith, rules, drop_of_length-le}
 use mir.Facts.{to_z_pos}
 use mir.Syntax.{w64}
 use Rattle.text.specs.Field.{value_of}
-use Rattle.text.specs.Natural.{figures}
-use Rattle.text.specs.declared.Field.TheVariants.{Number}
+use Rattle.text.specs.Natural.{figures, is_figure}
 use Rattle.text.proofs.Laws.{value-more, value_none, figures-more, figures-none, figure-range, value_grows, value-fits}
 use Rattle.text.proofs.number.Goals as goal
 
-pub loop-i-init : goal.loop-i-init
-loop-i-init c = (omega arith, omega arith, refl, refl)
-
-pub returns-then-not-is_figure : goal.returns-then-not-is_figure
-returns-then-not-is_figure c =
-    let l = c.loop-i in
+pub returns-then-not-is_ascii_digit : goal.returns-then-not-is_ascii_digit
+returns-then-not-is_ascii_digit c =
+    let l = c.loop-b in
     let d = c.args.d.now in
-    let t = sym c.is_figure.ensures ∙ not-true c.is_figure.result c.if-not-is_figure.true-raw in
-    let e : figures d ≡ false = l.invariant.3 ∙ figures-more d l.i c.loop-i-test.true ∙ rw t refl in
+    let t : is_figure (get_or d l.b-index 0) ≡ false = search rules in
+    let e : figures d ≡ false = l.invariant.digits ∙ figures-more d l.b-index (search rules) ∙ rw t refl in
     rw e refl
 
 pub overflow_mul-v : goal.overflow_mul-v
-overflow_mul-v c =
-    let l = c.loop-i in
-    omega (arith, value-fits l.i l.v (omega arith) l.invariant.1)
+overflow_mul-v c = omega (arith, value-fits c.loop-b.b-index c.loop-b.v (omega arith) c.loop-b.invariant.small)
 
 -- A digit counts less than 10.
 one-figure : (c : goal.After-figure) → c.figure.result < 10
 one-figure c =
-    let b = get_or c.args.d.now c.loop-i.i 0 in
-    let t = c.is_figure in
-    omega (arith, figure-range b (sym t.ensures ∙ not-false t.result c.if-not-is_figure.false-raw), c.figure.ensures)
+    let b = get_or c.args.d.now c.loop-b.b-index 0 in
+    let t : is_figure b ≡ true = search rules in
+    omega (arith, figure-range b t, c.figure.ensures)
 
 pub overflow_add-v : goal.overflow_add-v
-overflow_add-v c =
-    let l = c.loop-i in
-    omega (arith, value-fits l.i l.v (omega arith) l.invariant.1, one-figure c)
+overflow_add-v c = omega (arith, value-fits c.loop-b.b-index c.loop-b.v (omega arith) c.loop-b.invariant.small, one-figure c)
 
-pub loop-i-preserved : goal.loop-i-preserved
-loop-i-preserved c =
-    let l = c.loop-i in
+pub loop-b-preserved : goal.loop-b-preserved
+loop-b-preserved c =
+    let l = c.loop-b in
+    let i = l.b-index in
     let d = c.args.d.now in
-    let t = c.loop-i-test.true in
-    let f = sym c.is_figure.ensures ∙ not-false c.is_figure.result c.if-not-is_figure.false-raw in (
-      omega arith,
-      value_grows l.i l.v c.figure.result l.invariant.1 (one-figure c),
-      rw (add-one l.i, c.figure.ensures) (l.invariant.2 ∙ value-more d l.i l.v t),
-      rw (add-one l.i) (l.invariant.3 ∙ figures-more d l.i t ∙ rw f refl),
-    )
+    let h : i < length d = omega arith in
+    let t : is_figure (get_or d i 0) ≡ true = search rules in
+    record {
+      small = value_grows i l.v c.figure.result l.invariant.small (one-figure c);
+      value = rw (add-one i, c.figure.ensures) (l.invariant.value ∙ value-more d i l.v h);
+      digits = rw (add-one i) (l.invariant.digits ∙ figures-more d i h ∙ rw t refl);
+    }
 
 pub overflow_cast-result : goal.overflow_cast-result
-overflow_cast-result c = record { sfits = omega (arith, value-fits c.loop-i.i c.loop-i.v (omega arith) c.loop-i.invariant.1) }
+overflow_cast-result c = record { sfits = omega (arith, value-fits c.loop-b.b-index c.loop-b.v (omega arith) c.loop-b.invariant.small) }
 
 pub returns : goal.returns
 returns c =
-    let l = c.loop-i in
+    let l = c.loop-b in
     let d = c.args.d.now in
-    let e : drop l.i d ≡ [] = drop_of_length-le _ c.loop-i-test.false in
-    let f : figures d ≡ true = l.invariant.3 ∙ ap figures e ∙ figures-none in
-    let v : value_of 0 d ≡ l.v = l.invariant.2 ∙ ap (value_of l.v) e ∙ value_none l.v in
-    rw (f, v) (ap Number (to_z_pos w64 {n = l.v} (overflow_cast-result c).sfits))
+    let e : drop l.b-index d ≡ [] = drop_of_length-le d {i = l.b-index} (omega arith) in
+    let f : figures d ≡ true = l.invariant.digits ∙ ap figures e ∙ figures-none in
+    let v : value_of 0 d ≡ l.v = l.invariant.value ∙ ap (value_of l.v) e ∙ value_none l.v in
+    rw (f, v) (ap Some (to_z_pos w64 {n = l.v} (overflow_cast-result c).sfits))

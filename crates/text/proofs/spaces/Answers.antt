@@ -1,28 +1,19 @@
-use mathlib.Core.Path.{◌≡◌, ap}
-use mathlib.Core.List.{[]}
-use native.Mathlib.Omega.{arith}
-use native.Mathlib.Numerals.{add-one}
-use lib.ListN.{drop, drop_of_length-le}
-use Rattle.text.specs.Field.{spaces_of}
-use Rattle.text.proofs.Laws.{spaces-more, spaces-end, spaces-none}
+-- `text::spaces` meets its contract: what is counted is the bytes before the first that is no space.
+use Rattle.std.proofs.Common.{◌∙◌, eqb}
+use Rattle.std.proofs.lemmas.Iterator.{YieldsList-from_slice}
+use Rattle.std.proofs.lemmas.Iterator.Search.{YieldsList-from_take_while}
+use Rattle.std.proofs.lemmas.Iterator.Consumers.{count_from_yields_List}
+use Rattle.std.proofs.lemmas.List.Folds.{length-prefix_len}
+use borrow.Author.Rules.{rules}
+use borrow.Author.Tests.{tests}
+use Rattle.text.proofs.Laws.{spaces-counted}
 use Rattle.text.proofs.spaces.Goals as goal
-
-pub loop-i-init : goal.loop-i-init
-loop-i-init c = omega arith
-
-pub returns-then-field-i-ne32 : goal.returns-then-field-i-ne32
-returns-then-field-i-ne32 c =
-    let s = c.args.field.now in
-    let e = spaces-end s c.loop-i.i c.loop-i-test.true (λ q. omega arith) in
-    omega arith
-
-pub loop-i-preserved : goal.loop-i-preserved
-loop-i-preserved c =
-    let s = c.args.field.now in
-    let e = spaces-more s c.loop-i.i c.loop-i-test.true (omega arith) in
-    rw (add-one c.loop-i.i) (omega arith)
 
 pub returns : goal.returns
 returns c =
-    let e : drop c.loop-i.i c.args.field.now ≡ [] = drop_of_length-le _ c.loop-i-test.false in
-    omega (arith, ap spaces_of e, spaces-none)
+    let s = c.args.field.now in
+    let t = c.take_while in
+    spaces-counted s c.count.result
+    (count_from_yields_List t.result c.count.result c.count.ensures.ran
+    (YieldsList-from_take_while _ (λ b. eqb b 32) (YieldsList-from_slice s cc) t.ensures.closure t.ensures.done (λ x b q k. search (rules, tests)))
+    ∙ length-prefix_len (λ b. eqb b 32) s)

@@ -1,38 +1,20 @@
--- `writing::numbers_refusal` meets its contract: first hit answers.
-use mathlib.Core.Path.{sym, ◌∙◌}
-use Rattle.ranges.specs.Passed.{counted}
-use Rattle.writing.specs.Laws.{even-slices, edge-rows}
-use Rattle.writing.proofs.Laws.{vertices-two, edges-two, counts-four, later-refusal}
+-- First hit answers.
+use Rattle.std.proofs.Common.{sym, ◌∙◌}
+use Rattle.std.proofs.lemmas.Result.{err_from_is_err_and}
+use Rattle.refusal.specs.Number.{number-positive}
+use Rattle.writing.specs.Laws.{edge-rows}
+use Rattle.writing.proofs.Laws.{counts-four, later-refusal, met-four, passed-four}
 use Rattle.writing.proofs.numbers_refusal.Goals as goal
 
-pub returns-then-vertices-ne0 : goal.returns-then-vertices-ne0
-returns-then-vertices-ne0 c =
-    let a = c.args in
-    vertices-two a.vertices.now a.edges.now a.faces.now c.if-vertices-ne0.true
+pub returns-in_err-new : goal.returns-in_err-new
+returns-in_err-new c =
+    let p = err_from_is_err_and c.from_residual.result c.from_residual.ensures.1 in
+    let met = met-four _ _ (number-positive _) c.in_err-new.ensures.refused in
+    rw (p.1, p.2) (sym met.1 ∙ counts-four _ _ _ (sym c.is_uneven.ensures ∙ c.if-is_uneven.false) met.0)
 
-pub returns-then-edges-ne0 : goal.returns-then-edges-ne0
-returns-then-edges-ne0 c =
-    let a = c.args in
-    edges-two a.vertices.now a.edges.now a.faces.now c.if-vertices-ne0.false c.if-edges-ne0.true
-
-pub returns-then-lengths_refused : goal.returns-then-lengths_refused
-returns-then-lengths_refused c =
-    let a = c.args in
-    let vs = a.vertices.now in
-    let es = a.edges.now in
-    counts-four vs es a.faces.now (even-slices vs es c.if-vertices-ne0.false c.if-edges-ne0.false) (sym c.lengths_refused.ensures ∙ c.if-lengths_refused.true)
-
-pub tables_refusal-requires : goal.tables_refusal-requires
-tables_refusal-requires c =
-    let a = c.args in
-    let vs = a.vertices.now in
-    let es = a.edges.now in record { fact_1 = counted _ _ _ (sym c.lengths_refused.ensures ∙ c.if-lengths_refused.false); fact_2 = edge-rows vs es (even-slices vs es c.if-vertices-ne0.false c.if-edges-ne0.false) }
+pub tables_refusal-requires-clause-whole_rows : goal.tables_refusal-requires-clause-whole_rows
+tables_refusal-requires-clause-whole_rows c = edge-rows c.args.vertices.now _ (sym c.is_uneven.ensures ∙ c.if-is_uneven.false)
 
 pub returns : goal.returns
 returns c =
-    let e = c.before in
-    let a = c.args in
-    let vs = a.vertices.now in
-    let es = a.edges.now in
-    let fs = a.faces.now in
-    c.tables_refusal.ensures ∙ later-refusal vs es fs (even-slices vs es c.if-vertices-ne0.false c.if-edges-ne0.false) (sym c.lengths_refused.ensures ∙ c.if-lengths_refused.false)
+    c.tables_refusal.ensures ∙ later-refusal _ _ _ (sym c.is_uneven.ensures ∙ c.if-is_uneven.false) (passed-four _ c.in_ok-new.ensures.refused)

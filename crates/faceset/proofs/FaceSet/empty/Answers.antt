@@ -1,4 +1,3 @@
--- `FaceSet::empty` meets its contract: words that are 0 hold no face. Assumes nothing.
 use Rattle.faceset.proofs.Words.{has-zeros}
 use Rattle.faceset.proofs.FaceSet.empty.Goals as goal
 

@@ -1,9 +1,0 @@
--- `answer_lines::numbers` is safe and ends: the measure is what is left of the list.
-use Rattle.std.proofs.Common.{length, ◌-◌, ◌≤◌}
-use Rattle.answer_lines.proofs.numbers.Given as goal
-
-abbrev pub invariant-loop-i : goal.invariant-loop-i
-invariant-loop-i l = l.i ≤ length l.list
-
-abbrev pub decreases-loop-i : goal.decreases-loop-i
-decreases-loop-i l = length l.list - l.i

@@ -1,0 +1,40 @@
+// A book that a batch may work on.
+ghost use Rattle.book.specs.Books.{ValidBook};
+
+use crate::Book;
+use refusal::Refusal;
+
+// A book that refusal 1 does not meet.
+#[derive(Clone, Copy)]
+pub struct CheckedBook {
+    pub book: Book,
+    pub ghost valid: { ValidBook book },
+}
+
+impl CheckedBook {
+    ghost use Rattle.std.specs.Prelude.{◌≡◌, IfOk};
+    ghost use Rattle.refusal.specs.Number.{refusal_of};
+    ghost use Rattle.book.specs.Books.{total_wear, book_refusal};
+
+    // Any book that a caller can hold, or refusal 1.
+    pub fn new(book: Book) -> Result<CheckedBook, Refusal>
+        ensures refusal { refusal_of result ≡ book_refusal book }
+        ensures kept { IfOk result (λ c. c.book ≡ book) }
+    {
+        if crate::is_bad(&book) {
+            return Err(Refusal::Book);
+        }
+        Ok(CheckedBook { book })
+    }
+
+    // Wear of all sections plus retired wear.
+    pub fn total_wear(&self) -> u64
+        ensures { result ≡ total_wear self.now.book }
+    {
+        let mut total = self.book.retired;
+        for wear in self.book.wear {
+            total += wear;
+        }
+        total
+    }
+}
