@@ -7,21 +7,23 @@ use refusal::Refusal;
 // A chart stands in the first elements of the tables, which are arrays: a library has no heap.
 #[derive(Drop)]
 pub struct Room {
-    vertices: [i64; 512],
-    edges: [usize; 3024],
-    faces: [usize; 252],
+    vertices: [i64; chart::VERTEX_NUMBERS],
+    edges: [usize; chart::EDGE_NUMBERS],
+    faces: [usize; chart::FACES],
 }
 
 impl Room {
     ghost use Rattle.std.specs.Prelude.{◌≡◌};
     ghost use Rattle.reading.specs.Reading.{load_of};
-    ghost use Rattle.accepted.specs.Loading.{loaded_says};
+    ghost use Rattle.accepted.specs.Loading.{loaded_says, empty_room};
 
-    pub fn new() -> Room {
+    pub fn new() -> Room
+        ensures { result ≡ empty_room }
+    {
         Room {
-            vertices: [0; 512],
-            edges: [0; 3024],
-            faces: [0; 252],
+            vertices: [0; chart::VERTEX_NUMBERS],
+            edges: [0; chart::EDGE_NUMBERS],
+            faces: [0; chart::FACES],
         }
     }
 

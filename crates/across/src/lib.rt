@@ -9,6 +9,7 @@ ghost use Rattle.across.specs.Across.{presses, pressed};
 use chart::Chart;
 
 // Whether h and its partner are inner, and the third corner of the partner's face is strictly inside the circle of h's.
+// It asks that h is below its count: a type of a number with its chart would be no plainer.
 fn is_pressing(chart: &Chart, h: usize) -> bool
     requires { h < (seen chart.now).half_edges }
     ensures { result ≡ presses (seen chart.now) h }
@@ -25,6 +26,7 @@ fn is_pressing(chart: &Chart, h: usize) -> bool
 }
 
 // 11, of a chart that 7 to 10 let pass: across an edge, a third corner strictly inside a circle.
+#[tactic(auto, using(whole::proofs::Scans::scans))]
 pub fn some_pressed(chart: &Chart) -> bool
     ensures { result ≡ some (pressed (seen chart.now)) ((seen chart.now).half_edges / 2) }
 {

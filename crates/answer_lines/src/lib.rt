@@ -1,5 +1,11 @@
-// The lines that `answers` prints: a function for each kind.
+// The lines that `answers` prints: a function for each kind. A method is its number there, also one that is none. What a call wrote stands first in
+// lent room, so that its count goes beside the slice.
 #![tactic(auto)]
+
+ghost use Rattle.std.specs.Prelude.{OnOk, take};
+ghost use Rattle.std.specs.Io.KnownBytes.{Appends};
+ghost use Rattle.refusal.specs.Number.{number};
+ghost use Rattle.answer_lines.specs.Lines.{numbers_line, answers_line, refused_line};
 
 use book::Book;
 use gradient::Gradient;
@@ -15,6 +21,11 @@ use weights::{BarycentricWeights, Weighted};
 struct Bits(f64);
 
 impl fmt::Display for Bits {
+    ghost use Rattle.std.specs.Prelude.{Some};
+    ghost use Rattle.answer_lines.specs.Lines.{bits_text};
+
+    ghost output = { λ b. Some (bits_text b.0) };
+
     fn fmt<W: fmt::Write>(&self, f: &mut fmt::Formatter<W>) -> fmt::Result {
         if self.0.is_nan() {
             return write!(f, "nan");
@@ -154,12 +165,16 @@ pub fn refused_value<W: Write>(out: &mut W, method: i64, refusal: Refusal) -> io
 }
 
 // The answers to a batch of so many entries.
-pub fn answers<W: Write>(out: &mut W, answers: &[u64], entries: usize) -> io::Result<()> {
+pub fn answers<W: Write>(out: &mut W, answers: &[u64], entries: usize) -> io::Result<()>
+    ensures { OnOk result (Appends (W.contents out.old) (W.contents out.new) (answers_line (take entries answers.now))) }
+{
     write!(out, "answers")?;
     numbers(out, answers, entries)
 }
 
-pub fn refused_batch<W: Write>(out: &mut W, refusal: Refusal) -> io::Result<()> {
+pub fn refused_batch<W: Write>(out: &mut W, refusal: Refusal) -> io::Result<()>
+    ensures { OnOk result (Appends (W.contents out.old) (W.contents out.new) (refused_line (number refusal))) }
+{
     writeln!(out, "refused {}", refusal.number())
 }
 
@@ -173,8 +188,10 @@ pub fn book<W: Write>(out: &mut W, book: Book) -> io::Result<()> {
 }
 
 // The first `count` numbers of a list, or all of them where it has fewer, and the line's end.
-fn numbers<W: Write>(out: &mut W, list: &[u64], count: usize) -> io::Result<()> {
-    for n in list.iter().take(count) {
+fn numbers<W: Write>(out: &mut W, list: &[u64], count: usize) -> io::Result<()>
+    ensures { OnOk result (Appends (W.contents out.old) (W.contents out.new) (numbers_line (take count list.now))) }
+{
+    for n in &list[..count.min(list.len())] {
         write!(out, " {n}")?;
     }
     writeln!(out)

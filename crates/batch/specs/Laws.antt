@@ -93,6 +93,27 @@ module _ (c : Chart) (s : ℕ) (e : Entry) where
   unfolding entry_ruling
   ruling-known = second (unknown s e) refl
 
+-- ---- the ruling at each test
+module _ (c : Chart) (s : ℕ) (e : Entry) where
+  pub ruling-unknown : unknown s e ≡ true → entry_ruling (on_tables c) s [] e ≡ Refused 12
+  unfolding entry_ruling
+  ruling-unknown u = rw u
+
+  pub ruling-off-grid : unknown s e ≡ false → off_grid (place_in e) ≡ true → entry_ruling (on_tables c) s [] e ≡ Refused 13
+  unfolding entry_ruling
+  ruling-off-grid u o = rw (u, o)
+
+  pub ruling-splice : unknown s e ≡ false → off_grid (place_in e) ≡ false → is_splice e.kind ≡ true
+      → entry_ruling (on_tables c) s [] e ≡ Splice (unsigned e.section)
+  unfolding entry_ruling
+  ruling-splice u o k = rw (u, o, k)
+
+  pub ruling-bend : unknown s e ≡ false → off_grid (place_in e) ≡ false → is_splice e.kind ≡ false
+      → entry_ruling (on_tables c) s [] e ≡ bend_ruling (unsigned e.section) (located_value (method_of e.method) c (place_in e))
+  unfolding entry_ruling
+  ruling-bend u o k =
+      rw (u, o, k) (ap (bend_ruling (unsigned e.section)) (value-located (method_of e.method) c (place_in e) (known_method s e u k) o))
+
 -- ---- the load on the grid, or off it
 off-from : (o : Option GridPlace) (p : Place) → option_map at o ≡ grid_place p.x p.y → o ≡ None → off_grid p ≡ true
 off-from o p is none = go (off_grid p) refl

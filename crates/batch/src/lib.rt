@@ -1,4 +1,5 @@
 // A batch's entries on an accepted chart (01, "Charge, entry, book"): the ruling on an entry, 12 to 17, and the loop.
+// The prepared chart is read and the scratch written: they stay two, since a struct of both would be lent for writing as a whole.
 #![tactic(auto)]
 
 ghost use Rattle.std.specs.Prelude.{◌≡◌, [], ◌≤◌, ◌/◌, length, Ok};
@@ -14,7 +15,8 @@ use accepted::AcceptedChart;
 use book::CheckedBook;
 use entries::{Change, ENTRY_WIDTH, Entry, KnownEntry};
 use geometry::GridPlace;
-use gradient::ValuedChart;
+use gradient::{Gradient, ValuedChart};
+use lines::Line;
 use refusal::Refusal;
 use values::{Prepared, Scratch};
 
@@ -50,7 +52,7 @@ fn verdict(
     let first = ruling(prepared, book.book.sections, e, scratch);
     let change = first?;
     if let Change::Bend(section, n) = change {
-        if entries::is_full(book.total_wear(), book.book.bends[section], n) {
+        if entries::is_full(book.book.total_wear(), book.book.bends[section], n) {
             return Err(Refusal::Full);
         }
     }
@@ -81,7 +83,7 @@ fn work_entry(prepared: &Prepared, book: &mut CheckedBook, e: Entry, scratch: &m
     entries::answer_of(last)
 }
 
-// Every entry in order; the answers into the first elements of the lent slice.
+// Every entry in order; the answers into the first elements of the lent slice. That they have room, this and two callers ask of what C lends.
 fn work_all(
     prepared: &Prepared,
     book: CheckedBook,
@@ -93,10 +95,8 @@ fn work_all(
 {
     let mut scratch = Scratch::new();
     let mut b = book;
-    let n = entries.len() / ENTRY_WIDTH;
-    for i in 0..n {
-        let e = Entry::at(entries, i * ENTRY_WIDTH);
-        answers[i] = work_entry(prepared, &mut b, e, &mut scratch);
+    for (i, row) in entries.chunks_exact(ENTRY_WIDTH).enumerate() {
+        answers[i] = work_entry(prepared, &mut b, Entry::at(row, 0), &mut scratch);
     }
     b
 }
@@ -111,12 +111,13 @@ pub fn work(
     requires { length entries.now / entry_width ≤ length answers.old }
     ensures { worked result.book answers.new ≡ worked_of (on_tables (seen accepted.now.chart)) [] book.book entries.now answers.old }
 {
-    let mut lines = lines::room();
+    // As in `values::value_on`: a room that lends both would meet the chart's lifetime in `Prepared`, which the borrow checker does not cover yet (tried).
+    let mut lines = [Line::default(); lines::EDGES];
     lines::draw(&accepted.chart, &mut lines);
     let valued = ValuedChart {
         chart: accepted.chart,
     };
-    let mut gradients = gradient::room();
+    let mut gradients = [Gradient::default(); gradient::VERTICES];
     gradient::estimate_gradients(&valued, &mut gradients);
     let prepared = Prepared {
         accepted: *accepted,

@@ -16,7 +16,7 @@ pub struct Opening {
     pub room: u64,
 }
 
-// A room and a cut, or a line of the book.
+// A room and a cut, or a line of the book: `case_text::read_query` of numbers without a sign; a generic one would take the definition of a number.
 #[tactic(auto, unfolding(crate::specs::Batch::two_of))]
 pub fn read_two(line: &[u8]) -> Option<(u64, u64)>
     ensures { result ≡ two_of line.now }

@@ -21,7 +21,8 @@ pub struct Log {
     pub size: usize,
 }
 
-// Reads chart.txt, or as much of it as is kept. A file that is missing or cannot be read counts as empty.
+// Reads chart.txt, or as much of it as is kept. A file that is missing or cannot be read counts as empty. The test program reads its files so too
+// (case_files); a crate for both would stand between this program and the library for ten lines.
 pub fn read_chart<R: Files + AllocGlobal>(rt: &R) -> io::Result<Vec<u8>> {
     let mut chart = Vec::new(rt.alloc());
     let Ok(file) = File::open(rt, "chart.txt") else {

@@ -1,4 +1,6 @@
 // The queries on the body of a chart whose head has these counts: its tables are read and checked once, then asked.
+// Each writes out these two lines and its question (`locate_in` and `weights_in` are twins but for it): a generic one would owe its clauses.
+// The text and its head's counts go side by side: a type of both would be made for one call, and taken apart in it.
 #![tactic(auto)]
 
 ghost use Rattle.std.specs.Prelude.{◌≡◌, ◌≤◌, length};

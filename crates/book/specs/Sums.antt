@@ -32,3 +32,5 @@ pub sum-set : (l : List ℕ) (i v : ℕ) → i < length l → sum_of (set l i v)
 sum-set [] i v h = absurd (not-suc-le-zero h)
 sum-set (x ∷ l) zero v h = omega arith
 sum-set (x ∷ l) (suc i) v h = omega (arith, sum-set l i v (le_of_suc-le-suc h))
+
+pub ruleset sum_steps = (sum-next, sum-part)

@@ -14,7 +14,7 @@ pub struct CheckedBook {
 impl CheckedBook {
     ghost use Rattle.std.specs.Prelude.{◌≡◌, IfOk};
     ghost use Rattle.refusal.specs.Number.{refusal_of};
-    ghost use Rattle.book.specs.Books.{total_wear, book_refusal};
+    ghost use Rattle.book.specs.Books.{book_refusal};
 
     // Any book that a caller can hold, or refusal 1.
     pub fn new(book: Book) -> Result<CheckedBook, Refusal>
@@ -25,16 +25,5 @@ impl CheckedBook {
             return Err(Refusal::Book);
         }
         Ok(CheckedBook { book })
-    }
-
-    // Wear of all sections plus retired wear.
-    pub fn total_wear(&self) -> u64
-        ensures { result ≡ total_wear self.now.book }
-    {
-        let mut total = self.book.retired;
-        for wear in self.book.wear {
-            total += wear;
-        }
-        total
     }
 }

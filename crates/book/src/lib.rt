@@ -1,10 +1,10 @@
 // The book: wear and bend counts of a rope's sections, and the retired wear (01, "Charge, entry, book"). It is changed here and decides nothing.
 #![tactic(auto)]
 
-ghost use Rattle.std.specs.Prelude.{◌≡◌};
+ghost use Rattle.std.specs.Prelude.{◌≡◌, ◌≤◌};
 ghost use Rattle.whole.specs.First.{some};
 ghost use Rattle.book.specs.Returned.{returned_of};
-ghost use Rattle.book.specs.Books.{section_max, wear_above, count_above, stray_at, bad_sections, bad_book, zero_book, fresh_book, charge_book, splice_book, ChargeFits, SpliceFits};
+ghost use Rattle.book.specs.Books.{section_max, account_max, total_wear, wear_above, count_above, stray_at, bad_sections, bad_book, zero_book, fresh_book, charge_book, splice_book, ChargeFits, SpliceFits};
 
 use refusal::Refusal;
 
@@ -17,6 +17,7 @@ pub const LIMIT: u64 = 1_000_000_000_000;
 
 const SECTION_MAX: usize = 16;
 
+// Two arrays side by side, of a fixed size, as C lends and takes back a book's numbers; there is no heap.
 #[derive(Clone, Copy)]
 pub struct Book {
     pub sections: u64,
@@ -25,7 +26,7 @@ pub struct Book {
     pub retired: u64,
 }
 
-// The book of 0 sections, all zero: it stands beside refusal 1 of a fresh book.
+// The book of 0 sections, all zero: it stands beside refusal 1 of a fresh book. Written out, so that the edit `fresh_beside_refusal` has what to change.
 impl Default for Book {
     ghost use Rattle.std.specs.Prelude.{◌≡◌};
     ghost use Rattle.book.specs.Books.{zero_book};
@@ -67,6 +68,7 @@ pub fn fresh(sections: u64) -> Result<Book, Refusal>
 }
 
 // Whether wear and retired wear together are above the limit. Each number is held against what is left of the limit before it is taken off: no sum can wrap.
+#[tactic(auto, using(crate::specs::Sums::sum_steps))]
 fn wear_above(wear: &[u64], retired: u64) -> bool
     ensures { result ≡ wear_above wear.now retired }
 {
@@ -84,6 +86,7 @@ fn wear_above(wear: &[u64], retired: u64) -> bool
 }
 
 // Whether some bend count is above the limit.
+#[tactic(auto, using(whole::proofs::Scans::scans))]
 fn some_count_above(bends: &[u64; SECTION_MAX]) -> bool
     ensures { result ≡ some (count_above bends.now) section_max }
 {
@@ -109,6 +112,19 @@ fn is_bad(book: &Book) -> bool
 }
 
 impl Book {
+    // Wear of all sections plus retired wear.
+    #[tactic(auto, using(crate::specs::Sums::sum_steps))]
+    pub fn total_wear(&self) -> u64
+        requires { total_wear self.now ≤ account_max }
+        ensures { result ≡ total_wear self.now }
+    {
+        let mut total = self.retired;
+        for wear in self.wear {
+            total += wear;
+        }
+        total
+    }
+
     // A bend of charge n: n more wear in the section, and one bend more.
     pub fn charge(mut self, section: usize, n: u64) -> Book
         requires { ChargeFits self section n }

@@ -2,6 +2,8 @@
 // wear and bends; its entry slice. Then for each further batch: its room and how many bytes the chart lacks at its end; its entry slice.
 #![tactic(auto)]
 
+ghost use Rattle.std.specs.Prelude.{◌≡◌, ◌≤◌, [], length, IsOk};
+
 use batch_text::{read_entries, read_opening, read_two};
 use book::Book;
 use case_text::LIMIT;
@@ -10,18 +12,16 @@ use case_text::stop::Stop;
 use std::alloc::Global;
 use std::io::Write;
 
-// No batch here has more numbers, or more entries.
+// No batch here has more numbers, or more entries: the room of its answers bounds what a text may ask for.
 const NUMBERS: usize = 2560;
 
 const ENTRIES: usize = 512;
 
 // Answers the batches, up to the first that is none.
-pub fn batches<W: Write>(
-    out: &mut W,
-    alloc: Global,
-    chart: &[u8],
-    text: &[u8],
-) -> Result<(), Stop> {
+pub fn batches<W: Write>(out: &mut W, alloc: Global, chart: &[u8], text: &[u8]) -> Result<(), Stop>
+    ensures cut { 65536 ≤ length text.now → result ≡ Err Stop.Batch }
+    ensures none { text.now ≡ [] → IsOk result × (W.contents out.new ≡ W.contents out.old) }
+{
     if LIMIT <= text.len() {
         return Err(Stop::Batch);
     }
@@ -38,6 +38,7 @@ pub fn batches<W: Write>(
     columns(&mut lines, &mut book)?;
     let entries = lines.next().flatten();
     let mut book = batch(out, alloc, chart, entries, book, opening.room)?;
+    // each turn takes two lines, so that no `for` fits
     while let Some(line) = lines.next() {
         let (room, cut) = line.and_then(read_two).ok_or(Stop::Batch)?;
         let kept = chart.len().saturating_sub(cut as usize);
@@ -51,11 +52,9 @@ pub fn batches<W: Write>(
 
 // A line for each section's wear and bends.
 fn columns(lines: &mut Lines<'_>, book: &mut Book) -> Result<(), Stop> {
-    for i in 0..16 {
+    for (wear, bends) in book.wear.iter_mut().zip(book.bends.iter_mut()) {
         let line = lines.next().flatten();
-        let (wear, bends) = line.and_then(read_two).ok_or(Stop::Batch)?;
-        book.wear[i] = wear;
-        book.bends[i] = bends;
+        (*wear, *bends) = line.and_then(read_two).ok_or(Stop::Batch)?;
     }
     Ok(())
 }

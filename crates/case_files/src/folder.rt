@@ -1,5 +1,5 @@
 // The files of a case folder.
-ghost use Rattle.std.specs.Prelude.{◌≡◌, IfOk, string_bytes};
+ghost use Rattle.std.specs.Prelude.{◌≡◌, ◌≤◌, length, IfOk, IfSome, string_bytes};
 ghost use Rattle.case_files.specs.Path.{path_of};
 
 use crate::Texts;
@@ -12,7 +12,10 @@ use std::io::{ErrorKind, Read};
 use std::rt::{Env, Files};
 
 // Argument i as a folder's name: none, and so no file's, where it is too long for `space` or is no UTF-8. `None` past the last argument.
-pub fn folder_name<'a, E: Env>(env: &E, i: usize, space: &'a mut [u8]) -> Option<&'a str> {
+// Not by `env::args`, which fails as a whole at an argument that is no UTF-8.
+pub fn folder_name<'a, E: Env>(env: &E, i: usize, space: &'a mut [u8]) -> Option<&'a str>
+    ensures { IfSome result (λ name. length name.now ≤ length space.old) }
+{
     match env.arg(i, space) {
         Ok(n) => Some(str::from_utf8(&space[..n]).unwrap_or("")),
         Err(FillError::TooLong) => Some(""),

@@ -1,4 +1,8 @@
 // The texts of packed cases: a header line with their sizes, and then these texts. A read that fails ends the input.
+ghost use Rattle.std.specs.Prelude.{◌≤◌, min, IfOk, IfSome, vec_len};
+ghost use Rattle.std.specs.Io.{StartsWith};
+ghost use Rattle.case_files.specs.Packed.{Headed};
+
 use crate::Texts;
 use case_text::LIMIT;
 use case_text::headers::{HEADER, read_header};
@@ -8,7 +12,9 @@ use std::io;
 use std::io::{ErrorKind, Read};
 
 // The texts of the next case; `None` where the input ends before it.
-pub fn read_texts<R: Read>(alloc: Global, input: &mut R) -> Result<Option<Texts>, Stop> {
+pub fn read_texts<R: Read>(alloc: Global, input: &mut R) -> Result<Option<Texts>, Stop>
+    ensures { IfOk result (λ case. IfSome case (λ texts. IfSome (R.remaining input.old) (λ bytes. Headed bytes texts))) }
+{
     let line = read_some(alloc, input, HEADER)?;
     if line.is_empty() {
         return Ok(None);
@@ -24,7 +30,9 @@ pub fn read_texts<R: Read>(alloc: Global, input: &mut R) -> Result<Option<Texts>
 }
 
 // A text of this size: what is past the limit is read and dropped.
-fn read_text<R: Read>(alloc: Global, input: &mut R, size: usize) -> Result<Vec<u8>, Stop> {
+fn read_text<R: Read>(alloc: Global, input: &mut R, size: usize) -> Result<Vec<u8>, Stop>
+    ensures { IfOk result (λ text. min size 65536 ≤ vec_len text) }
+{
     let kept = size.min(LIMIT);
     let text = read_some(alloc, input, kept)?;
     if text.len() < kept {
@@ -38,7 +46,9 @@ fn read_text<R: Read>(alloc: Global, input: &mut R, size: usize) -> Result<Vec<u
 }
 
 // So many bytes, or as many as there are.
-fn read_some<R: Read>(alloc: Global, input: &mut R, size: usize) -> io::Result<Vec<u8>> {
+fn read_some<R: Read>(alloc: Global, input: &mut R, size: usize) -> io::Result<Vec<u8>>
+    ensures { IfOk result (λ text. IfSome (R.remaining input.old) (λ bytes. StartsWith bytes text.items)) }
+{
     let mut text = Vec::new(alloc);
     match input.take(size as u64).read_to_end(&mut text) {
         Err(e) if e.kind() == ErrorKind::OutOfMemory => Err(e),

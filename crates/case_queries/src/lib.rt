@@ -12,7 +12,7 @@ use std::io::Write;
 // One more than the vertices of the largest chart.
 const VERTICES: u64 = 129;
 
-// As long a list as any chart has.
+// As long a list as any chart has: the calls write into lent room, and the most is known.
 const LONGEST: usize = 756;
 
 // Gradients and queries of a chart that is not refused.
@@ -63,7 +63,7 @@ fn answer<W: Write>(out: &mut W, chart: &[u8], x: i64, y: i64) -> io::Result<()>
     Ok(())
 }
 
-// The value, and what it costs.
+// The value, and what it costs. The public call takes a method's number.
 fn value<W: Write>(out: &mut W, chart: &[u8], method: i64, x: i64, y: i64) -> io::Result<()> {
     match estivolh::interpolate(chart, method, x, y) {
         Ok(v) => answer_lines::value(out, method, v, estivolh::charge(v)),

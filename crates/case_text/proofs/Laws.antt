@@ -45,3 +45,5 @@ no_plus (b ∷ s) e = grind (arith, nat_tests)
 
 pub parsed : {E : Type 0} (s : List ℕ) (r : Result ℕ E) → ParsesUnsigned 64 10 s r → pointwise eqb (43 ∷ []) (take 1 s) ≡ false → result_ok r ≡ natural_of s
 parsed s r h p = natural-parsed s r (parse_plain own 64 s r h (no_plus s p))
+
+pub ruleset naturals = (plus-none, foreign-none, parsed)

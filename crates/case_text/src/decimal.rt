@@ -26,6 +26,7 @@ fn magnitude(digits: &[u8]) -> Option<u64>
 }
 
 // One digit or more, of a number that a u64 holds.
+#[tactic(auto, using(crate::proofs::Laws::naturals))]
 pub fn unsigned(digits: &[u8]) -> Option<u64>
     ensures { result ≡ natural_of digits.now }
 {

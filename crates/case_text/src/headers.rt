@@ -22,10 +22,9 @@ pub fn read_header(line: &[u8]) -> Option<Sizes>
     if line.len() != HEADER {
         return None;
     }
+    // `tables::line` reads into lent room
     let mut row = [0i64; 5];
-    if !tables::line(line, 0, &mut row) {
-        return None;
-    }
+    tables::line(line, 0, &mut row)?;
     Some(Sizes {
         chart: size(row[0])?,
         queries: size(row[1])?,

@@ -2,6 +2,7 @@
 ghost use Rattle.std.specs.Prelude.{◌≡◌, ◌==◌, ◌<◌, length, option_map, position, IfSome};
 ghost use Rattle.std.specs.Iterator.{at_most};
 ghost use Rattle.case_text.specs.Query.{split_of};
+ghost use Rattle.case_text.specs.Line.{line_says, line_of, after_line};
 
 fn find(s: &[u8], b: u8) -> Option<usize>
     ensures { result ≡ position (λ x. x == b) s.now }
@@ -26,6 +27,8 @@ impl<'a> Iterator for Lines<'a> {
     type Item = Option<&'a [u8]>;
 
     ghost remaining = { λ s. at_most (length s.0.now) };
+
+    ghost next_gives = { λ s r t. (line_says r ≡ line_of s.0.now) × (t.0.now ≡ after_line s.0.now) };
 
     fn next(&mut self) -> Option<Option<&'a [u8]>> {
         if self.0.is_empty() {

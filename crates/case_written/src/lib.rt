@@ -23,8 +23,8 @@ impl<'a> Tables<'a> {
     }
 }
 
-fn without(numbers: &[i64], n: usize) -> &[i64] {
-    &numbers[..numbers.len().saturating_sub(n)]
+fn without(numbers: &[i64], lacking: usize) -> &[i64] {
+    &numbers[..numbers.len().saturating_sub(lacking)]
 }
 
 // The lines of a chart; one that 3, 4 or 5 refuses has no tables, and no lines.
@@ -32,10 +32,19 @@ pub fn lines<W: Write>(out: &mut W, chart: &[u8]) -> io::Result<()> {
     let Ok(counts) = reading::read_head(chart) else {
         return Ok(());
     };
-    let mut vertices = chart::vertex_room();
-    let mut edges = reading::edge_room();
-    let mut faces = reading::face_room();
-    if reading::read_body(chart, counts, &mut vertices, &mut edges, &mut faces).is_err() {
+    let mut vertices = [0; chart::VERTEX_NUMBERS];
+    let mut edges = [0; chart::EDGE_NUMBERS];
+    let mut faces = [0; chart::FACES];
+    let read = reading::read_body(
+        chart,
+        counts.vertices,
+        counts.half_edges,
+        counts.faces,
+        &mut vertices,
+        &mut edges,
+        &mut faces,
+    );
+    if read.is_err() {
         return Ok(());
     }
     let tables = Tables {
@@ -65,7 +74,8 @@ fn table_lines<W: Write>(out: &mut W, chart: &[u8], tables: Tables<'_>) -> io::R
     writeln!(out)
 }
 
-// The writer's answer in a buffer of so many zeros, within a line. There are 65,536 of them, and the largest chart has 31,465 bytes.
+// The writer's answer in a buffer of so many zeros, within a line. There are 65,536 of them, and the largest chart has 31,465 bytes:
+// the writer lays its text into lent room.
 fn answer<W: Write>(out: &mut W, chart: &[u8], tables: Tables<'_>, room: usize) -> io::Result<()> {
     let mut zeros = [0u8; 65536];
     let n = room.min(zeros.len());

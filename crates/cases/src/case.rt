@@ -1,4 +1,6 @@
 // The answers to one case, in the oracle's order.
+ghost use Rattle.cases.specs.Stop.{HandedOn};
+
 use case_files::Texts;
 use case_text::LIMIT;
 use case_text::stop::Stop;
@@ -15,7 +17,9 @@ pub fn print<W: Write>(out: &mut W, alloc: Global, texts: &Texts) -> io::Result<
 }
 
 // Prints the line that takes the place of the answers to what is broken.
-pub fn print_stop<W: Write>(out: &mut W, stop: Stop) -> io::Result<()> {
+pub fn print_stop<W: Write>(out: &mut W, stop: Stop) -> io::Result<()>
+    ensures { HandedOn stop result }
+{
     match stop {
         Stop::Io(e) => Err(e),
         Stop::Memory(e) => Err(io::Error::from(e)),
@@ -44,6 +48,7 @@ fn run<W: Write>(out: &mut W, chart: &[u8], log: &[u8]) -> Result<(), Stop> {
     if LIMIT <= log.len() {
         return Err(Stop::Log);
     }
+    // the most that is printed is known, and `program` lays it into lent room
     let mut text = [0u8; LIMIT];
     let n = program::print(chart, log.len(), log, &mut text);
     out.write_all(&text[..n])?;

@@ -7,6 +7,7 @@ use std::rt::{Env, Files};
 
 // Whether there are any: the first is argument 1.
 pub fn cases<R: Files + Env + AllocGlobal, W: Write>(rt: &R, out: &mut W) -> io::Result<bool> {
+    // `Env::arg` writes into lent room
     let mut space = [0u8; 4096];
     for i in 1..usize::MAX {
         let Some(folder) = folder_name(rt, i, &mut space) else {

@@ -202,3 +202,31 @@ cost-lo v h p = rw (on-scale v h) (ap whole (sym (rounded-lo v h p)))
 
 pub cost-hi : (v : Float) → OnScale v → lt v (middle v) ≡ false → whole (to_unsigned 64 v + 1) ≡ charge_of v
 cost-hi v h p = rw (on-scale v h) (ap whole (sym (rounded-hi v h p)))
+
+-- ---- the same by the code's tests alone
+module _ (v : Float) (low : le low_end v ≡ true) (high : lt v high_end ≡ true) where
+  pub cut_low : T (lt (fin true 1 (pos 0)) v)
+  cut_low = (cut-asks v (in-range v low high)).0
+
+  pub cut_high : T (lt v (fin false 1 (pos 64)))
+  cut_high = (cut-asks v (in-range v low high)).1
+
+  pub cut_most : to_unsigned 64 v ≤ charge_max
+  cut_most = cut-le v (in-range v low high)
+
+  pub cut_casts : T (in_float binary64 (pos (to_unsigned 64 v)))
+  cut_casts = castable (to_unsigned 64 v) cut_most
+
+  pub costs_less : lt v (middle v) ≡ true → whole (to_unsigned 64 v) ≡ charge_of v
+  costs_less h = cost-lo v (in-range v low high) h
+
+  pub costs_more : lt v (middle v) ≡ false → whole (to_unsigned 64 v + 1) ≡ charge_of v
+  costs_more h = cost-hi v (in-range v low high) h
+
+pub refused_low : (v : Float) → le low_end v ≡ false → turned_down 16 ≡ charge_of v
+refused_low v e = refused v (too-low v e)
+
+pub refused_high : (v : Float) → lt v high_end ≡ false → turned_down 16 ≡ charge_of v
+refused_high v e = refused v (too-high v e)
+
+pub ruleset ways = (cut_low, cut_high, cut_most, cut_casts, costs_less, costs_more, refused_low, refused_high)

@@ -1,6 +1,7 @@
-// The chart's tables, three flat slices in file order, and the accessors by which every other function reads them: of tables whose numbers are in
-// range, the methods of `Chart`.
+// The chart's tables, three flat slices in file order (the definitions read a chart off them so), and the accessors by which every other function
+// reads them: of tables whose numbers are in range, the methods of `Chart`.
 //     vertices: x, y, value, out half-edge    edges (half-edges): origin, next, prev, face    faces: adjacent half-edge
+// That an index is below a count, each function asks: a row's number belongs to a table only beside it, and a type of the two would be no plainer.
 #![tactic(auto)]
 
 ghost use Rattle.std.specs.Prelude.{◌≡◌, ◌<◌, length};
@@ -13,33 +14,18 @@ mod tables;
 use geometry::Place;
 pub use tables::Chart;
 
-// Room for the tables of the largest chart.
-pub fn vertex_room() -> [i64; 512]
-    ensures { length result ≡ 512 }
-{
-    [0i64; 512]
-}
+// How many numbers the largest chart's tables have, and so the arrays that hold them: no heap.
+pub const VERTEX_NUMBERS: usize = 512;
 
-pub fn edge_room() -> [usize; 3024]
-    ensures { length result ≡ 3024 }
-{
-    [0usize; 3024]
-}
+pub const EDGE_NUMBERS: usize = 3024;
 
-pub fn face_room() -> [usize; 252]
-    ensures { length result ≡ 252 }
-{
-    [0usize; 252]
-}
+pub const FACES: usize = 252;
 
-// A number that row 6 has let pass, taken over as an unsigned one.
+// A number that 6 has let pass, taken over as an unsigned one. Neither `From` nor `TryFrom`: it is total, and 0 for a negative number.
 pub fn to_unsigned(z: i64) -> usize
     ensures { result ≡ unsigned z }
 {
-    if z < 0 {
-        return 0;
-    }
-    z as usize
+    z.max(0) as usize
 }
 
 pub fn place_of(vertices: &[i64], v: usize) -> Place

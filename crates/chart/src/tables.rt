@@ -1,4 +1,5 @@
 // A chart's three tables together.
+// That a number is below its count, each method asks: a type of a number with its chart would be no plainer, since tables and answers hold numbers.
 ghost use Rattle.chart.specs.Chart.{chart_of, InRange};
 
 use geometry::GridPlace;

@@ -36,3 +36,5 @@ module _ (vs es fs : List ℤ) (h : out_of_range vs es fs ≡ false) where
   -- those of faces
   pub faces-unsigned : Unsigned fs
   faces-unsigned = record { at = λ i l. passed (rows es) (get_or fs i (pos 0)) (face vs es fs h i l) }
+
+pub ruleset taken = (edges-unsigned, faces-unsigned)

@@ -14,6 +14,7 @@ use refusal::Refusal;
 
 // A table of numbers that 6 has let pass, as unsigned ones: none is negative, so that this is a plain copy. It goes by the index: of the elements that an
 // adapter of `iter_mut`, as `zip`, hands out nothing is known afterwards.
+// Not one with its twin `inserting::hand_over`: one for both would take the cast as a closure, and owe more clauses about it than the two lines it saves.
 fn take_over(signed: &[i64], table: &mut [usize])
     requires same_length { length table.old ≡ length signed.now }
     requires not_negative { Unsigned signed.now }
@@ -24,8 +25,8 @@ fn take_over(signed: &[i64], table: &mut [usize])
     }
 }
 
-// 7 to 11, of a chart whose numbers are in range.
-#[tactic(auto, unfolding(crate::specs::Checks::chart_refusal))]
+// 7 to 11, of a chart whose numbers are in range. A bound on what is lent, and no part of the type: a `Chart` is of any size.
+#[tactic(auto, using(crate::proofs::Circles::told_by_edges), unfolding(crate::specs::Checks::chart_refusal))]
 fn chart_refusal(chart: &Chart) -> Result<(), Refusal>
     requires { (seen chart.now).vertices ≤ most_vertices }
     ensures { refusal_of result ≡ chart_refusal (seen chart.now) }
@@ -50,7 +51,8 @@ fn chart_refusal(chart: &Chart) -> Result<(), Refusal>
 }
 
 // 6 to 11, of three tables; where none meets them, edges and faces have their numbers as unsigned ones.
-#[tactic(auto, unfolding(crate::specs::Checks::tables_refusal))]
+// The tables come apart, as C lends them: they are no `Chart` before 6 has let them pass. The rooms are lent: no heap.
+#[tactic(auto, using(crate::specs::Taken::taken), unfolding(crate::specs::Checks::tables_refusal))]
 pub fn tables_refusal(
     vertices: &[i64],
     edgecells: &[i64],

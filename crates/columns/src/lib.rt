@@ -1,4 +1,5 @@
 // A number put into the columns of a field: every field of a chart's text and of the program's lines is written by `put_columns`.
+// Bytes into a lent buffer, and no `Display`: there is no heap, and a field has its width.
 #![tactic(auto)]
 
 ghost use Rattle.std.specs.Prelude.{◌≡◌, [], ◌∷◌, ◌+◌, ◌%◌, ◌≤◌, ◌<◌, length};
@@ -28,6 +29,7 @@ fn sign_left(sign: u8, n: u64) -> u8
 }
 
 // A number with its sign into all the columns of a field, the last column first. Of a number that does not fit the last digits are put.
+#[tactic(auto, using(crate::proofs::Laws::puts))]
 fn put_digits(field: &mut [u8], mut sign: u8, mut n: u64)
     requires { 0 < length field.old }
     ensures { field.new ≡ last_digit (length field.old) sign n }

@@ -1,4 +1,5 @@
 // Refusals 8 to 10: places, turns and rim (01, "Where a call can be turned down"). The definition of 11 stands beside theirs; its code is in `across`.
+// That a number is below its count, each function asks: a type of a number with its chart would be no plainer.
 #![tactic(auto)]
 
 ghost use Rattle.std.specs.Prelude.{◌≡◌, ◌<◌};
@@ -31,6 +32,7 @@ fn stands_at(chart: &Chart, p: GridPlace, w: usize) -> bool
 }
 
 // Whether a vertex of a number below v is at the place p.
+#[tactic(auto, using(whole::proofs::Scans::scans))]
 fn some_below_at(chart: &Chart, p: GridPlace, v: usize) -> bool
     requires { v < (seen chart.now).vertices }
     ensures { result ≡ some (stands_at (seen chart.now).place (at p)) v }
@@ -49,7 +51,7 @@ fn bucket_of(p: GridPlace) -> usize
 pub fn some_share_place(chart: &Chart) -> bool
     ensures { result ≡ some (shares_place (seen chart.now)) (seen chart.now).vertices }
 {
-    let mut met = [false; BUCKETS];
+    let mut met = [false; BUCKETS]; // no heap, so no map
     for v in 0..chart.vertex_count() {
         let p = chart.place(v);
         let b = bucket_of(p);
@@ -61,7 +63,7 @@ pub fn some_share_place(chart: &Chart) -> bool
     false
 }
 
-// Whether the product of u and the place of vertex v is above k.
+// Whether the product of u and the place of vertex v is above k. `Near u` stands here as in `geometry`, which says why.
 fn is_past(chart: &Chart, u: Place, k: i64, v: usize) -> bool
     requires near { Near u }
     requires below { v < (seen chart.now).vertices }
@@ -110,6 +112,7 @@ pub fn some_not_left(chart: &Chart) -> bool
 }
 
 // 10: a vertex strictly left of an outer half-edge.
+#[tactic(auto, using(whole::proofs::Scans::scans))]
 pub fn some_overhung(chart: &Chart) -> bool
     ensures { result ≡ some (overhung (seen chart.now)) (seen chart.now).half_edges }
 {

@@ -15,7 +15,7 @@ pub const ENTRY_WIDTH: usize = 5;
 
 const REFUSED_ENTRY: u64 = 2_000_000;
 
-// Of these kinds an entry is.
+// Of these kinds an entry is: numbers in C and in a log's line, and `KnownEntry` past 12.
 const BEND: i64 = 1;
 
 const SPLICE: i64 = 2;
@@ -36,7 +36,8 @@ pub enum KnownEntry {
     Splice(usize),
 }
 
-// What an accepted entry does to the book: a bend of a section with its charge, or a splice of a section.
+// What an accepted entry does to the book: a bend of a section with its charge, or a splice of a section. Beside `KnownEntry` and no one enum with a
+// parameter: what a bend carries is named here and there.
 #[derive(Clone, Copy)]
 pub enum Change {
     Bend(usize, u64),
@@ -96,7 +97,7 @@ pub fn is_full(total: u64, count: u64, n: u64) -> bool
     total + n > LIMIT || count == LIMIT
 }
 
-// What the batch answers.
+// What the batch answers: a number, as C gets it.
 pub fn answer_of(ruling: Result<Change, Refusal>) -> u64
     ensures { result ≡ answer_of (ruling_says ruling) }
 {

@@ -1,4 +1,5 @@
 // The public calls of Estivolh. Each that needs a chart takes its bytes, or to write it back its tables, and checks them; none asks anything of its caller.
+// C lends tables, slices and a method's number so: three slices are no `Chart` before they are checked, and a number is a `Method` only here.
 #![tactic(auto)]
 
 ghost use Rattle.std.specs.Prelude.{◌≡◌, ◌≤◌, ◌/◌, length};
@@ -40,7 +41,7 @@ pub fn check(chart: &[u8]) -> Result<(), Refusal>
     bodies::body_refusal(chart, counts)
 }
 
-// Where the load at (x, y) lies on a chart.
+// Where the load at (x, y) lies on a chart. The next call is its twin, of two lines: a closure for the question would owe more clauses than it saves.
 #[tactic(auto, unfolding(reading::specs::Reading::chart_in))]
 pub fn locate(chart: &[u8], x: i64, y: i64) -> Result<Location, Refusal>
     ensures { position_says result ≡ locate_of chart.now x y }
@@ -130,7 +131,7 @@ fn bad_slices(numbers: usize, room: usize) -> bool
     numbers % ENTRY_WIDTH != 0 || room < numbers / ENTRY_WIDTH
 }
 
-// Under a chart, of a book and slices that neither 1 nor 2 meets.
+// Under a chart, of a book and slices that neither 1 nor 2 meets. The clause is a bound of two lent slices, that this one caller tests.
 #[tactic(auto, unfolding(reading::specs::Reading::chart_in))]
 fn batch_under(
     chart: &[u8],
@@ -149,6 +150,7 @@ fn batch_under(
 }
 
 // A batch of entries on a book, under a chart that is checked once: the new book, and an answer for each entry.
+#[tactic(auto, using(crate::proofs::Laws::batches))]
 pub fn batch(
     book: Book,
     chart: &[u8],
@@ -177,6 +179,7 @@ pub fn write_chart(
 }
 
 // A new bench test at (x, y) with its value put into a chart: the new chart's text into a lent buffer, and how long it is.
+#[tactic(auto, using(crate::proofs::Laws::insertions), unfolding(reading::specs::Reading::chart_in))]
 pub fn insert(chart: &[u8], x: i64, y: i64, value: i64, text: &mut [u8]) -> Result<u64, Refusal>
     ensures { InsertOf chart.now x y value text.old (saved_left result text.new) }
 {

@@ -1,5 +1,6 @@
 // The public calls for C: numbers and slices only; the crate estivolh_c_c exports them. A call's number is 0 where it is accepted, else the refusal's, and then nothing
 // is written. A lent slice shorter than its stated length gets 2 before all else; elements past that length are unchanged.
+// Three tables, a method's number and a slice with its stated length are as C lends them: the C interface has no other types.
 #![tactic(auto)]
 
 ghost use Rattle.std.specs.Prelude.{◌≡◌};

@@ -1,5 +1,6 @@
 // The static library for C: each public call of the crate estivolh_c under its own name, with its parameters and its clauses, which this crate states again.
 // A crate is a library or a static library, and crates stand on estivolh_c: so the exports are here.
+// Three tables, a method's number and a slice with its stated length are as C lends them: the C interface has no other types.
 #![tactic(auto)]
 
 ghost use Rattle.std.specs.Prelude.{◌≡◌};

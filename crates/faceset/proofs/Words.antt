@@ -2,7 +2,7 @@
 use mathlib.Core.Path.{◌≡◌, refl, sym, ap, ap₂, ◌∙◌, subst}
 use mathlib.Core.Logic.{◌⊎◌, inl, inr, ⊎_elim}
 use mathlib.Core.Bool.{Bool, true, false, ◌||◌}
-use mathlib.Core.List.{List}
+use mathlib.Core.List.{List, [], ◌∷◌}
 use Prim.Native.Nat.{ℕ, zero, suc, ◌+◌, ◌*◌, ◌/◌, ◌%◌, ◌^◌, ◌<◌}
 use native.Mathlib.Nat.{div-one, zero-div, one-mul}
 use native.Mathlib.Numerals.{add-one, one-add}
@@ -84,11 +84,14 @@ eqb_same a b c d f g =
     (λ (q : eqb a b ≡ false). q ∙ sym (ne_eqb c d (λ e. eqb-false a b q (g e)))) (cases (eqb a b))
 
 -- the words after `w[f / 64] |= 1 << f % 64` hold f besides
-pub has-or : (ws : List ℕ) (f : ℕ) → f / 64 < length ws
+pub has_or : (ws : List ℕ) (f : ℕ) → length ws ≡ 4 → f < 256
     → has (set ws (f / 64) (bit_or (get_or ws (f / 64) 0) ((1 * 2 ^ (f % 64)) % 2 ^ 64))) ≡ add f (has ws)
 unfolding has add
-has-or ws f h = λ i g. at g i
+has_or ws f e b = λ i g. at g i
   where
+    h : f / 64 < length ws
+    h = omega arith
+
     v : ℕ
     v = bit_or (get_or ws (f / 64) 0) ((1 * 2 ^ (f % 64)) % 2 ^ 64)
 
@@ -136,6 +139,6 @@ get_d-zeros (suc n) zero = refl
 get_d-zeros (suc n) (suc i) = get_d-zeros n i
 
 -- words that are all 0 hold no number
-pub has-zeros : (n : ℕ) → has (replicate n 0) ≡ none
+pub zeros_hold_none : has (0 ∷ 0 ∷ 0 ∷ 0 ∷ []) ≡ none
 unfolding has none
-has-zeros n = λ i g. (ap (λ (x : ℕ). bit x (g % 64)) (get_d-zeros n (g / 64)) ∙ zero_bit (g % 64)) i
+zeros_hold_none = λ i g. (ap (λ (x : ℕ). bit x (g % 64)) (get_d-zeros 4 (g / 64)) ∙ zero_bit (g % 64)) i

@@ -4,6 +4,7 @@
 ghost use Rattle.std.specs.Prelude.{◌≡◌, ◌<◌};
 ghost use Rattle.faceset.specs.Set.{has, add, none, count_below};
 
+// Bits in words and no set of the library: there is no heap, and `insert` and `contains` are one step each.
 #[derive(Clone, Copy)]
 pub struct FaceSet {
     pub words: [u64; 4],
@@ -11,6 +12,7 @@ pub struct FaceSet {
 
 impl FaceSet {
     // The set with no face.
+    #[tactic(auto, using(crate::proofs::Words::zeros_hold_none))]
     pub fn empty() -> Self
         ensures { has result.words ≡ none }
     {
@@ -28,6 +30,7 @@ impl FaceSet {
     }
 
     // The set with face f in it.
+    #[tactic(auto, using(crate::proofs::Words::has_or))]
     pub fn insert(mut self, f: usize) -> Self
         requires { f < 256 }
         ensures { has result.words ≡ add f (has self.words) }

@@ -1,4 +1,6 @@
 // The search for natural neighbours (01, "Weights"; `inspect_flips`).
+// That a number is below its count, each function asks: a type of a number with its chart would be no plainer.
+// So it is with `most_faces`, the room of a `FaceSet`, here and in `neighbors`: a `Chart` may have more, and a type for this bound would be one more.
 #![tactic(auto)]
 
 ghost use Rattle.std.specs.Prelude.{◌≡◌, ◌<◌, ◌≤◌, reverse};
@@ -15,7 +17,7 @@ use chart::Chart;
 use faceset::FaceSet;
 use geometry::GridPlace;
 
-// Half-edges that wait, or that are listed: both together are never more than the faces, and two.
+// Half-edges that wait, or that are listed: both together are never more than the faces, and two. Of a fixed size: there is no heap.
 pub type HalfEdges = ArrayVec<usize, 254>;
 
 // Whether q is strictly inside the circle of half-edge h's face.
@@ -61,6 +63,7 @@ pub fn behind_prev(chart: &Chart, h: usize) -> usize
 
 // Inspects the half-edges that wait, the last of them first, and lists the border edges found behind those in `out`: the faces that are opened then. The
 // Rust empties its stack for each start; here all starts wait on one stack, which finds the same.
+// No iterator gives what waits, since the stack grows meanwhile: `while let`.
 pub fn inspect_flips(
     chart: &Chart,
     q: GridPlace,

@@ -16,7 +16,8 @@ impl GridPlace {
     ghost use Rattle.std.specs.Option.{option_map};
     ghost use Rattle.geometry.specs.Grid.{at, grid_place};
 
-    // Off the grid there is none: 6 meets such a vertex, 13 such a load.
+    // Off the grid there is none: 6 meets such a vertex, 13 such a load. An Option and no `TryFrom`: this is its one failure, and callers refuse differently.
+    #[tactic(auto, using(crate::proofs::Bounds::grid_of))]
     pub fn new(x: i64, y: i64) -> Option<GridPlace>
         ensures { option_map at result ≡ grid_place x y }
     {

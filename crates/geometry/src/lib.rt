@@ -17,7 +17,7 @@ pub const GRID: i64 = 10000;
 const LOW: i64 = -GRID;
 
 // A place of the plane, or a vector between two places, in whole numbers.
-#[derive(Clone, Copy, PartialEq, Eq)]
+#[derive(Clone, Copy, PartialEq, Eq, Default)]
 pub struct Place {
     pub x: i64,
     pub y: i64,
@@ -33,7 +33,9 @@ pub fn vector(p: GridPlace, q: GridPlace) -> Place
     }
 }
 
-// The cross product u × v.
+// The cross product u × v. `Near` is asked here, in `dot` and in `delaunay::is_past`: a type of a near vector would be a third one
+// beside `Place` and `GridPlace`, with a conversion from each, for these three (no plainer).
+#[tactic(auto, using(crate::proofs::Bounds::crosses))]
 pub fn cross(u: Place, v: Place) -> i64
     requires first { Near u }
     requires second { Near v }
@@ -43,6 +45,7 @@ pub fn cross(u: Place, v: Place) -> i64
 }
 
 // The dot product u · v.
+#[tactic(auto, using(crate::proofs::Bounds::dots))]
 fn dot(u: Place, v: Place) -> i64
     requires first { Near u }
     requires second { Near v }
@@ -52,6 +55,7 @@ fn dot(u: Place, v: Place) -> i64
 }
 
 // The side of q at a to b: above 0 left, 0 on the line, below 0 right.
+#[tactic(auto, unfolding(crate::specs::Plane::side))]
 pub fn side_query(a: GridPlace, b: GridPlace, q: GridPlace) -> i64
     ensures { result ≡ side (at a) (at b) (at q) }
 {
@@ -73,6 +77,7 @@ fn ends_seen(a: GridPlace, b: GridPlace, q: GridPlace) -> i64
 }
 
 // Whether q is on the open segment from a to b: on its line, with the ends in opposite directions.
+#[tactic(auto, using(crate::proofs::Bounds::tests), unfolding(crate::specs::Plane::on_open_segment))]
 pub fn is_on_open_segment(a: GridPlace, b: GridPlace, q: GridPlace) -> bool
     ensures { result ≡ on_open_segment (at a) (at b) (at q) }
 {
@@ -80,6 +85,7 @@ pub fn is_on_open_segment(a: GridPlace, b: GridPlace, q: GridPlace) -> bool
 }
 
 // s·d - t·e, for two sides and two dot products.
+#[tactic(auto, using(crate::proofs::Bounds::minors))]
 fn minor(s: i64, d: i64, t: i64, e: i64) -> i64
     requires s_in { Within area_max s }
     requires d_in { Within area_max d }
@@ -92,6 +98,7 @@ fn minor(s: i64, d: i64, t: i64, e: i64) -> i64
 
 // Whether q is strictly inside the circle of the left-turning a, b, c. The determinant is a difference of two products: c and q
 // by their sides of a to b, and by the ends as they see them.
+#[tactic(auto, using(crate::proofs::Bounds::bounds))]
 pub fn contained_in_circumference(a: GridPlace, b: GridPlace, c: GridPlace, q: GridPlace) -> bool
     ensures { result ≡ lt_z (pos 0) (circle (at a) (at b) (at c) (at q)) }
 {
@@ -105,6 +112,7 @@ pub fn contained_in_circumference(a: GridPlace, b: GridPlace, c: GridPlace, q: G
 }
 
 // Whether a place is off the grid: 6 of a vertex, 13 of a load.
+#[tactic(auto, unfolding(crate::specs::Plane::off_grid))]
 pub fn off_grid(p: Place) -> bool
     ensures { result ≡ off_grid p }
 {

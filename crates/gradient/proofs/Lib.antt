@@ -1,3 +1,4 @@
-pub mod Walked
+pub mod Steps
 pub mod Sums
 pub mod Upward
+pub mod Estimated

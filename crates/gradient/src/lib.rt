@@ -1,4 +1,5 @@
 // The gradient at a vertex (01, "Gradient and value"; `estimate_gradient`): normals of the triangles about it, summed, and one division each.
+// That a number is below its count, each function asks: a type of a number with its chart would be no plainer.
 #![tactic(auto)]
 
 ghost use Rattle.std.specs.Prelude.{◌≡◌, ◌≤◌, ◌<◌, length};
@@ -23,7 +24,7 @@ pub struct Vector3 {
     pub z: f64,
 }
 
-#[derive(Clone, Copy)]
+#[derive(Clone, Copy, Default)]
 pub struct Gradient {
     pub x: f64,
     pub y: f64,
@@ -78,7 +79,7 @@ fn end_spot(valued: &ValuedChart, h: usize) -> Vector3
     spot_of(valued, valued.chart.origin(valued.chart.partner(h)))
 }
 
-// The next half-edge counterclockwise about the vertex where h starts.
+// The next half-edge counterclockwise about the vertex where h starts (`flips::behind_prev` is this step under the Rust's name, in another crate).
 fn ccw_of(chart: &Chart, h: usize) -> usize
     requires { h < (seen chart.now).half_edges }
     ensures value { result ≡ ccw (seen chart.now) h }
@@ -117,6 +118,7 @@ fn add_pair(v: Vector3, sum: Vector3, p0: Vector3, p1: Vector3) -> Vector3
 }
 
 // The sum of the normals about v. The turn keeps the last end and closes with the first; on an accepted chart it is back before its steps run out.
+#[tactic(auto, using(crate::proofs::Steps::steps))]
 fn final_normal(valued: &ValuedChart, v: usize) -> Vector3
     requires { v < (seen valued.now.chart).vertices }
     ensures { result ≡ final_normal (seen valued.now.chart) v }
@@ -167,19 +169,16 @@ pub fn estimate_gradient(valued: &ValuedChart, v: usize) -> Gradient
     gradient_from(final_normal(valued, v))
 }
 
-// Room for the gradients of the largest chart's vertices.
-pub fn room() -> [Gradient; 128]
-    ensures { length result ≡ 128 }
-{
-    [Gradient { x: 0.0, y: 0.0 }; 128]
-}
+// How many vertices the largest chart has, and so the array of their gradients: no heap.
+pub const VERTICES: usize = 128;
 
 // The gradients of all vertices, into the first elements of a lent slice: for many loads on one chart.
 pub fn estimate_gradients(valued: &ValuedChart, gradients: &mut [Gradient])
     requires { (seen valued.now.chart).vertices ≤ length gradients.old }
     ensures { Estimated (seen valued.now.chart) gradients.new (seen valued.now.chart).vertices }
 {
-    for v in 0..valued.chart.vertex_count() {
-        gradients[v] = estimate_gradient(valued, v);
+    let n = valued.chart.vertex_count();
+    for (v, gradient) in gradients[..n].iter_mut().enumerate() {
+        *gradient = estimate_gradient(valued, v);
     }
 }

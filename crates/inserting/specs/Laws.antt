@@ -25,14 +25,14 @@ use Rattle.inserting.specs.Inserting.{Inserts}
 use Rattle.inserting.specs.Numbers.{Small, unsigned_back, edges-small, faces-small, numbers-pass}
 
 -- a chart that was read
-record Read (l : Loaded) : Type 0 where
-  vs : List ℤ
-  es : List ℕ
-  fs : List ℕ
-  was : l ≡ loaded vs es fs
+pub record Read (l : Loaded) : Type 0 where
+  pub vs : List ℤ
+  pub es : List ℕ
+  pub fs : List ℕ
+  pub was : l ≡ loaded vs es fs
 
 -- a chart that is refused is refused with its own number
-refused-first : (l : Loaded) (n : ℕ) (q : Place) (z : ℤ) → l ≡ refused n → insert_refusal l q z ≡ n
+pub refused-first : (l : Loaded) (n : ℕ) (q : Place) (z : ℤ) → l ≡ refused n → insert_refusal l q z ≡ n
 unfolding insert_refusal
 refused-first l n q z w = ap (λ (k : Loaded). insert_refusal k q z) w
 
@@ -71,15 +71,15 @@ module _ (v e f : ℕ) (s : List ℕ) (q : Place) (z : ℤ) (lent : List ℕ) (t
   new-range = (x.joined read.vs read.es read.fs read.was).accepted.sound.range
 
   -- in front
-  module _ (us' : List ℤ) (gs' hs' : List ℕ) (now : chart_of us' gs' hs' ≡ shown t) (front : us' ≡ take (4 * t.counts.vertices) t.vertices) (u-long : length us' ≡ 4 * t.counts.vertices) (g-long : length gs' ≡ 4 * t.counts.half_edges) where
+  module _ (us' : List ℤ) (gs' hs' : List ℕ) (now : chart_of us' gs' hs' ≡ shown t) (front : us' ≡ take (4 * t.vertex_count) t.vertices.now) (u-long : length us' ≡ 4 * t.vertex_count) (g-long : length gs' ≡ 4 * t.half_edge_count) where
     quarter : (n m : ℕ) → m ≡ 4 * n → m ≡ 4 * (m / 4)
     quarter n m e = omega arith
 
     u-rows : length us' ≡ 4 * rows us'
-    u-rows = quarter t.counts.vertices (length us') u-long
+    u-rows = quarter t.vertex_count (length us') u-long
 
     g-rows : length gs' ≡ 4 * rows gs'
-    g-rows = quarter t.counts.half_edges (length gs') g-long
+    g-rows = quarter t.half_edge_count (length gs') g-long
 
     joins : (vs : List ℤ) (es fs : List ℕ) → load_of v e f s ≡ loaded vs es fs → Joined (chart_of vs es fs) q z (chart_of us' gs' hs')
     joins vs es fs w = subst (Joined (chart_of vs es fs) q z) (sym now) (x.joined vs es fs w)
@@ -90,7 +90,7 @@ module _ (v e f : ℕ) (s : List ℕ) (q : Place) (z : ℤ) (lent : List ℕ) (t
     naturals : (u : ℕ) → u < rows us' → Natural (out_cell us' u)
     naturals u l =
         subst (λ (w : List ℤ). Natural (out_cell w u)) (sym front)
-        (subst Natural (sym (get_or-take (4 * t.counts.vertices) t.vertices (u * 4 + 3) (pos 0) (omega arith)))
+        (subst Natural (sym (get_or-take (4 * t.vertex_count) t.vertices.now (u * 4 + 3) (pos 0) (omega arith)))
         (x.naturals u (subst (λ (c : Chart). u < c.vertices) now l)))
 
     -- ---- what the writer asks
@@ -134,3 +134,5 @@ module _ (v e f : ℕ) (s : List ℕ) (q : Place) (z : ℤ) (lent : List ℕ) (t
               w ∙ written-by us' (map pos gs') (map pos hs') lent new-pass
               ∙ ap (λ (n : ℕ). saved_by (room_refusal n T lent) T lent) x.answered;
         }
+
+pub ruleset arms = (refused-inserts, new-pass, small-edges, small-faces)

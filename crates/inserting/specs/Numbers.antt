@@ -1,8 +1,8 @@
 -- The tables of an accepted chart as the numbers of a file: none of 2, 4 and 6 to 11 meets them. Assumes nothing.
-use Rattle.std.specs.Prelude.{◌≡◌, refl, false, ℕ, zero, suc, ◌+◌, ◌*◌, ◌/◌, ◌%◌, ◌≤◌, ◌<◌, ℤ, negsuc}
+use Rattle.std.specs.Prelude.{◌≡◌, refl, false, ℕ, zero, suc, ◌+◌, ◌*◌, ◌/◌, ◌%◌, ◌≤◌, ◌<◌, ℤ, negsuc, take}
 use Rattle.std.proofs.Math.Path.{sym, subst, ap}
-use Rattle.std.proofs.Common.{◌∙◌, add-zero, lt_of_lt_of_le, arith, lt-ltb, le-ltb}
-use mathlib.Core.List.{List, [], ◌∷◌, map}
+use Rattle.std.proofs.Common.{length-take-le, ◌∙◌, add-zero, lt_of_lt_of_le, arith, take_at, lt-ltb, le-ltb}
+use mathlib.Core.List.{List, [], ◌∷◌, ◌++◌, map}
 use Rattle.std.proofs.Math.IntN.{pos}
 use Rattle.std.proofs.Math.ListN.{length, get_or, length-map, get_or-map}
 use Rattle.whole.specs.Bound.{Within, outside}
@@ -42,6 +42,10 @@ module _ (vs : List ℤ) (es fs : List ℕ) (p : numbers_refusal vs (map pos es)
 
   pub faces_room : length fs ≤ most_faces
   faces_room = let c = (counts-in vs (map pos es) (map pos fs) p).f-most in let l = length-map fs pos in omega (arith, c, l)
+
+-- what stands in front of an array once it is handed over
+pub handed : (t : List ℕ) (m rest : List ℤ) → m ≡ map pos t → take (length t) (m ++ rest) ≡ map pos t
+handed t m rest e = take_at m rest (length t) (ap length e ∙ length-map t pos) ∙ e
 
 -- ---- what passes 6
 below-passes : (n k : ℕ) → k < n → not_below n (pos k) ≡ false
@@ -149,3 +153,5 @@ module _ (us : List ℤ) (gs hs : List ℕ) (a : Accepted (chart_of us gs hs)) w
     numbers-pass u g =
         let w : length G ≡ 4 * rows G = length-map gs pos ∙ g ∙ ap (λ (k : ℕ). 4 * k) (sym rows-G) in
         sym (later-refusal us G H (even-rows us G u w) (counts-pass (rows us) (rows G) (length H) (rw (rows-G, length-H) a.counts))) ∙ tables-pass
+
+pub ruleset rooms = (edges_room, faces_room, length-take-le)

@@ -12,7 +12,7 @@ use geometry::Place;
 use ranges::Counts;
 use refusal::Refusal;
 
-// A table of unsigned numbers as the file has them.
+// A table of unsigned numbers as the file has them, by the index as in `checks::take_over`, where it stands why the two are not one.
 fn hand_over(table: &[usize], numbers: &mut [i64])
     requires same_length { length numbers.old ≡ length table.now }
     requires small { Small table.now }
@@ -24,15 +24,16 @@ fn hand_over(table: &[usize], numbers: &mut [i64])
 }
 
 // The text of a chart's tables that are known to pass, and its length; or 18.
-#[tactic(auto, using(crate::specs::Numbers::edges_room, crate::specs::Numbers::faces_room))]
+// Bytes into the buffer that C lends, and no `Display`; the numbers stand in the first elements of the largest chart's rooms: no heap.
+#[tactic(auto, using(crate::specs::Numbers::rooms))]
 fn put_text(chart: &Chart, text: &mut [u8]) -> Result<u64, Refusal>
     requires passes { numbers_refusal chart.now.vertices.now (map pos chart.now.edges.now) (map pos chart.now.faces.now) ≡ 0 }
     requires small_edges { Small chart.now.edges.now }
     requires small_faces { Small chart.now.faces.now }
     ensures { saved_left result text.new ≡ write_of chart.now.vertices.now (map pos chart.now.edges.now) (map pos chart.now.faces.now) text.old }
 {
-    let mut edgenumbers = reading::edge_room();
-    let mut facenumbers = reading::face_room();
+    let mut edgenumbers = [0i64; chart::EDGE_NUMBERS];
+    let mut facenumbers = [0i64; chart::FACES];
     let b = chart.edges.len();
     let f = chart.faces.len();
     hand_over(chart.edges, &mut edgenumbers[..b]);
@@ -41,6 +42,7 @@ fn put_text(chart: &Chart, text: &mut [u8]) -> Result<u64, Refusal>
 }
 
 // Into the body of a chart whose head has these counts.
+#[tactic(auto, using(crate::specs::Laws::arms))]
 pub fn insert_in(
     chart: &[u8],
     counts: Counts,
@@ -50,6 +52,17 @@ pub fn insert_in(
 ) -> Result<u64, Refusal>
     ensures { Inserts (load_of counts.vertices counts.half_edges counts.faces chart.now) q value text.old (saved_left result text.new) }
 {
-    let tables = insertion::extend(chart, counts, q, value)?;
+    let mut vertices = [0; chart::VERTEX_NUMBERS];
+    let mut edges = [0; chart::EDGE_NUMBERS];
+    let mut faces = [0; chart::FACES];
+    let tables = insertion::extend(
+        chart,
+        counts,
+        q,
+        value,
+        &mut vertices,
+        &mut edges,
+        &mut faces,
+    )?;
     put_text(&tables.chart(), text)
 }

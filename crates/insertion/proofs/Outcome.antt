@@ -1,13 +1,11 @@
 -- What stands at a site, and what joining a vertex there and flipping edges about it leaves.
-use Rattle.std.specs.Prelude.{◌≡◌, cond, Ok, Result, ℕ, ◌+◌, ◌*◌, ◌/◌, ◌≤◌, ◌<◌, ℤ, length, take}
+use Rattle.std.specs.Prelude.{◌≡◌, cond, Ok, Result, ℕ, ◌*◌, ◌/◌, ℤ, length, take}
 use Rattle.std.proofs.Common.{arith, length-take-le, subst, sym, ap, ◌∙◌}
 use Rattle.geometry.specs.declared.Place.{Place}
-use Rattle.chart.specs.Limits.{most_vertices}
 use Rattle.chart.specs.Chart.{Chart, InRange}
 use Rattle.accepted.specs.Accepted.{Accepted}
-use Rattle.euler.specs.Euler.{half-edges-few, faces-few}
 use Rattle.rewire.specs.declared.Tables.{Tables}
-use Rattle.rewire.specs.Front.{shown, Roomy}
+use Rattle.rewire.specs.Front.{shown}
 use Rattle.stars.specs.Star.{Growing}
 use Rattle.legal.specs.Legal.{Legal}
 use Rattle.sites.specs.declared.Site.{Site}
@@ -51,29 +49,12 @@ module _ (c : Chart) (a : Accepted c) (q : Place) where
         by (Inside e) p g = face-joined c a q z k e (face-site c a q e p) l g
         by (Across e) p g = edge-joined c a q z k e (edge-site c a q e p) l g
 
--- ---- the counts of tables
-quarter : (n k : ℕ) → k ≡ 4 * n → k / 4 ≡ n
+-- ---- the count of tables
+pub quarter : (n k : ℕ) → k ≡ 4 * n → k / 4 ≡ n
 quarter n k e = omega arith
 
-module _ (t : Tables) (v : length t.vertices ≡ 512) (e : length t.edges ≡ 3024) (f : length t.faces ≡ 252) where
-  pub shown-vertices : (shown t).vertices ≡ t.counts.vertices
-  shown-vertices = quarter t.counts.vertices (length (take (4 * t.counts.vertices) t.vertices)) (length-take-le (4 * t.counts.vertices) t.vertices (let l = t.counts.counted.v-most in omega arith))
-
-  shown-half-edges : (shown t).half_edges ≡ t.counts.half_edges
-  shown-half-edges = quarter t.counts.half_edges (length (take (4 * t.counts.half_edges) t.edges)) (length-take-le (4 * t.counts.half_edges) t.edges (let l = t.counts.counted.e-most in omega arith))
-
-  shown-faces : (shown t).faces ≡ t.counts.faces
-  shown-faces = length-take-le t.counts.faces t.faces (let l = t.counts.counted.f-most in omega arith)
-
-  -- there is room for one vertex more, by Euler's inequality
-  pub room-of : Accepted (shown t) → (shown t).vertices < most_vertices → Roomy t.counts
-  room-of a few =
-      let x : (shown t).half_edges + 12 ≤ 6 * (shown t).vertices = half-edges-few (shown t) a.sound in
-      let y : 3 * (shown t).faces ≤ (shown t).half_edges = faces-few (shown t) a.sound in
-      let i = shown-vertices in
-      let j = shown-half-edges in
-      let k = shown-faces in
-      record { vertices = omega (arith, i, few); half_edges = omega (arith, x, i, j, few); faces = omega (arith, x, y, i, j, k, few) }
+pub shown-vertices : (t : Tables) → (shown t).vertices ≡ t.vertex_count
+shown-vertices t = quarter t.vertex_count (length (take (4 * t.vertex_count) t.vertices.now)) (length-take-le (4 * t.vertex_count) t.vertices.now t.fits.vertices)
 
 -- ---- where a site is, of a chart c that is seen as b
 pub seen-site : (b c : Chart) (q : Place) (r o : Result Site Refusal) → b ≡ c → r ≡ site_at b q → r ≡ o → site_at c q ≡ o

@@ -35,4 +35,4 @@ NaturalOuts n vs = (u : ℕ) → u < n → Natural (out_cell vs u)
 pub record Extends (l : Loaded) (q : Place) (z : ℤ) (r : Result Tables Refusal) : Type 0 where
   pub answered : refusal_of r ≡ insert_refusal l q z
   pub joined : IfOk r (λ t. (vs : List ℤ) (es fs : List ℕ) → l ≡ loaded vs es fs → Joined (chart_of vs es fs) q z (shown t))
-  pub naturals : IfOk r (λ t. NaturalOuts (shown t).vertices t.vertices)
+  pub naturals : IfOk r (λ t. NaturalOuts (shown t).vertices t.vertices.now)

@@ -38,3 +38,5 @@ module _ (c : Chart) where
     blend-end a b [] ws e = refl
     blend-end a b (v ∷ os) [] e = refl
     blend-end a b (v ∷ os) (w ∷ ws) e = elim e [ inl h ↦ absurd (cc h.1.0) | inr h ↦ absurd (cc h.1.0) ]
+
+pub ruleset steps = (blend-at, blend_next)

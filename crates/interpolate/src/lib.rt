@@ -1,4 +1,6 @@
 // Values from vertices and their weights (01, "Gradient and value"; `interpolate`, `interpolate_gradient` with flatness 1).
+// That a number is below its count, each function asks: a type of a number with its chart would be no plainer.
+// Owners and weights are two slices, as `natural` leaves them.
 #![tactic(auto)]
 
 ghost use Rattle.std.specs.Prelude.{◌≡◌, ◌<◌};
@@ -22,6 +24,7 @@ pub struct Blend {
 }
 
 // The weighted sum of the vertices' values.
+#[tactic(auto, unfolding(crate::specs::Values::sum_from))]
 pub fn value_sum(valued: &ValuedChart, owners: &[usize], weights: &[f64]) -> f64
     requires { Owners (seen valued.now.chart) owners.now }
     ensures { result ≡ value_sum (seen valued.now.chart) owners.now weights.now }
@@ -79,6 +82,7 @@ impl Blend {
 }
 
 // The vertices' values and gradients, blended.
+#[tactic(auto, using(crate::proofs::Laws::steps))]
 pub fn value_blend(gradients: &Gradients, q: GridPlace, owners: &[usize], weights: &[f64]) -> f64
     requires { Owners (seen gradients.now.valued.chart) owners.now }
     ensures { result ≡ value_blend (seen gradients.now.valued.chart) (at q) owners.now weights.now }

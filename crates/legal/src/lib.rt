@@ -6,7 +6,7 @@ ghost use Rattle.whole.specs.First.{found};
 ghost use Rattle.chart.specs.Chart.{InRange};
 ghost use Rattle.chart.specs.Seen.{seen};
 ghost use Rattle.rewire.specs.Tables.{KeepsOuts};
-ghost use Rattle.rewire.specs.Front.{shown};
+ghost use Rattle.rewire.specs.Front.{shown, SameLent};
 ghost use Rattle.stars.specs.Star.{Growing};
 ghost use Rattle.legal.specs.Legal.{wants_flip, Legal};
 
@@ -14,6 +14,7 @@ use chart::Chart;
 use rewire::Tables;
 
 // Whether vertex n is across half-edge h and strictly inside the circle of the face beyond h.
+// h is below a count of this chart: a handle of both would be a second type for what stands in the tables as a number.
 #[tactic(auto, unfolding(crate::specs::Legal::wants_flip))]
 fn wants_flip(chart: &Chart, n: usize, h: usize) -> bool
     requires n_below { n < (seen chart.now).vertices }
@@ -40,12 +41,13 @@ fn find_flip(chart: &Chart, n: usize) -> Option<usize>
     (0..chart.half_edge_count()).find(|&h| wants_flip(chart, n, h))
 }
 
-// Flips edges about vertex n, the last one, until none is to be flipped.
+// Flips edges about vertex n, the last one, until none is to be flipped. Each flip changes the tables searched, so no iterator over them can go on.
 pub fn legalize(tables: &mut Tables, n: usize)
     requires in_range { InRange (shown tables.old) }
     requires growing { Growing (shown tables.old) n }
     ensures legal { Legal (shown tables.old) n (shown tables.new) }
-    ensures outs { KeepsOuts tables.old.vertices tables.new.vertices }
+    ensures outs { KeepsOuts tables.old.vertices.now tables.new.vertices.now }
+    ensures lent { SameLent tables.old tables.new }
 {
     while let Some(h) = find_flip(&tables.chart(), n) {
         tables.flip_cw(h);

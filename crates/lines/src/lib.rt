@@ -13,23 +13,16 @@ pub use drawn::Lines;
 use geometry::Place;
 
 // The line of a half-edge: its vector, and what the side of a load takes off.
-#[derive(Clone, Copy)]
+#[derive(Clone, Copy, Default)]
 pub struct Line {
     pub vector: Place,
     pub offset: i64,
 }
 
-// Room for the lines of the largest chart, 378 edges.
-pub fn room() -> [Line; 378]
-    ensures { length result ≡ 378 }
-{
-    [Line {
-        vector: Place { x: 0, y: 0 },
-        offset: 0,
-    }; 378]
-}
+// How many edges the largest chart has, and so the array of their lines: no heap.
+pub const EDGES: usize = 378;
 
-// The line of half-edge h.
+// The line of half-edge h. It asks that h is below its count: a type of a number with its chart would be no plainer.
 fn line_of(chart: &Chart, h: usize) -> Line
     requires { h < (seen chart.now).half_edges }
     ensures { result ≡ line_of (seen chart.now) h }
@@ -45,7 +38,8 @@ pub fn draw(chart: &Chart, lines: &mut [Line])
     requires { (seen chart.now).half_edges / 2 ≤ length lines.old }
     ensures { Drawn (seen chart.now) lines.new ((seen chart.now).half_edges / 2) }
 {
-    for k in 0..chart.half_edge_count() / 2 {
-        lines[k] = line_of(chart, 2 * k);
+    let n = chart.half_edge_count() / 2;
+    for (k, line) in lines[..n].iter_mut().enumerate() {
+        *line = line_of(chart, 2 * k);
     }
 }

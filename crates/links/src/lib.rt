@@ -1,4 +1,5 @@
 // Refusal 7: the links of the tables (01, "Links"). Each clause is a function of the whole chart.
+// That a number is below its count, each function asks: a type of a number with its chart would be no plainer.
 #![tactic(auto)]
 
 ghost use Rattle.std.specs.Prelude.{◌≡◌, ◌<◌, ◌≤◌, false, length, replicate};
@@ -112,6 +113,7 @@ fn adjacent_has(chart: &Chart, f: usize) -> bool
 }
 
 // Whether some half-edge is not linked.
+#[tactic(auto, using(whole::proofs::Scans::scans))]
 fn some_unlinked(chart: &Chart) -> bool
     ensures { result ≡ some (unlinked (seen chart.now)) (seen chart.now).half_edges }
 {
@@ -119,6 +121,7 @@ fn some_unlinked(chart: &Chart) -> bool
 }
 
 // Whether some vertex's out half-edge starts elsewhere.
+#[tactic(auto, using(whole::proofs::Scans::scans))]
 fn some_stray_out(chart: &Chart) -> bool
     ensures { result ≡ some (stray_out (seen chart.now)) (seen chart.now).vertices }
 {
@@ -126,13 +129,14 @@ fn some_stray_out(chart: &Chart) -> bool
 }
 
 // Whether some face's adjacent half-edge has another face.
+#[tactic(auto, using(whole::proofs::Scans::scans))]
 fn some_stray_adjacent(chart: &Chart) -> bool
     ensures { result ≡ some (stray_adjacent (seen chart.now)) (seen chart.now).faces }
 {
     (0..chart.face_count()).any(|f| !adjacent_has(chart, f))
 }
 
-// The empty set of vertices.
+// The empty set of vertices: an array, since there is no heap.
 fn no_vertex() -> [bool; 128]
     ensures { result ≡ replicate most_vertices false }
 {
@@ -140,6 +144,8 @@ fn no_vertex() -> [bool; 128]
 }
 
 // Whether two outer half-edges leave one vertex: the set of the vertices that one has left is kept beside the scan.
+// The bound is that of the set's room. A `Chart` may have more vertices; a type of one that has not would serve this, `links_broken` and
+// `checks::chart_refusal` alone (no plainer).
 fn some_leaves_again(chart: &Chart) -> bool
     requires { (seen chart.now).vertices ≤ most_vertices }
     ensures { result ≡ some (leaves_again (seen chart.now)) (seen chart.now).half_edges }

@@ -3,9 +3,13 @@ use Rattle.std.specs.Prelude.{cond, ◌≡◌, Bool, true, false, ℕ, zero, suc
 use Rattle.std.proofs.Common.{refl, sym, ap, ◌∙◌, arith, eq-eqb, ne_eqb, le-ltb}
 use Rattle.std.specs.Option.{unwrap_or}
 use Rattle.whole.specs.First.{first, from, some, found, some_at, none-at, from-hit, from-miss, from_end}
+use Rattle.whole.specs.Test.{bits-false, zero-fits}
 use Rattle.geometry.specs.declared.Place.{Place}
 use Rattle.chart.specs.Chart.{Chart}
 use Rattle.locate.specs.Location.{on_edge, on_even_edge}
+
+-- what a test of a side says
+pub ruleset tests = (bits-false, zero-fits, ne_eqb)
 
 -- ---- the number found
 found-at : (p : ℕ → Bool) (n i : ℕ) → i < n → p i ≡ true → first p n ≡ i → Some i ≡ found p n
@@ -52,3 +56,5 @@ module _ (c : Chart) (q : Place) (k n : ℕ) (l : k < n / 2) (so_far : first (on
 pub edge-none : (c : Chart) (q : Place) (k n : ℕ) → n ≤ 2 * k → first (on_even_edge c q) n ≡ from (on_even_edge c q) (2 * k) (n - 2 * k) → None ≡ found (on_even_edge c q) n
 edge-none c q k n l so_far =
     let e = so_far ∙ from_end (on_even_edge c q) (2 * k) n l in found-none (on_even_edge c q) n (omega arith)
+
+pub ruleset edges = (edge-hit, edge-miss, edge-none)

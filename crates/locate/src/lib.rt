@@ -1,5 +1,6 @@
 // Where a load lies on a chart, by scans from the front (01, "Location"; the Rust's `locate`). The scan of the edges keeps what it finds of
 // each half-edge, and the scans after it look that up.
+// That a number is below its count, each function asks: a type of a number with its chart would be no plainer.
 #![tactic(auto)]
 
 ghost use Rattle.std.specs.Prelude.{◌≡◌, ◌*◌, ◌≤◌, ◌<◌, length, None};
@@ -16,7 +17,7 @@ mod sides;
 
 use chart::Chart;
 use geometry::GridPlace;
-use lines::Lines;
+use lines::{Line, Lines};
 use sides::Sides;
 
 // The Rust's `PositionInTriangulation`, without its `NoTriangulation`: a load on a chart has a place or is outside.
@@ -28,7 +29,7 @@ pub enum Location {
     OutsideOfConvexHull(usize),
 }
 
-// Whether vertex v is at q.
+// Whether vertex v is at q: the one line of `delaunay::stands_at`, under the words of the location.
 fn is_at_vertex(chart: &Chart, q: GridPlace, v: usize) -> bool
     requires { v < (seen chart.now).vertices }
     ensures { result ≡ at_vertex (seen chart.now) (at q) v }
@@ -44,6 +45,7 @@ fn find_vertex(chart: &Chart, q: GridPlace) -> Option<usize>
 }
 
 // Whether q is on the open segment of half-edge h, where s is the side of q. No place is looked up unless s is 0.
+#[tactic(auto, unfolding(geometry::specs::Plane::on_open_segment), using(crate::proofs::Scan::tests))]
 fn is_on_edge(chart: &Chart, q: GridPlace, h: usize, s: i64) -> bool
     requires below { h < (seen chart.now).half_edges }
     requires seen_at { s ≡ side (from_of (seen chart.now) h) (to_of (seen chart.now) h) (at q) }
@@ -53,6 +55,8 @@ fn is_on_edge(chart: &Chart, q: GridPlace, h: usize, s: i64) -> bool
 }
 
 // The lowest even half-edge with q on its open segment. Where there is none, `left` says of each half-edge whether q is strictly left of it.
+// A `for` that writes by index, not `find` or `chunks_exact_mut`: it fills `left` on its way, and a proof knows nothing of what an iterator lent.
+#[tactic(auto, using(crate::proofs::Scan::edges))]
 fn find_edge(lines: &Lines, q: GridPlace, left: &mut [bool]) -> Option<usize>
     requires { (seen lines.now.chart).half_edges ≤ length left.old }
     ensures value { result ≡ found (on_even_edge (seen lines.now.chart) (at q)) (seen lines.now.chart).half_edges }
@@ -71,7 +75,7 @@ fn find_edge(lines: &Lines, q: GridPlace, left: &mut [bool]) -> Option<usize>
     None
 }
 
-// No half-edge has q on its left yet.
+// No half-edge has q on its left yet. Of a fixed size, since there is no heap.
 fn no_side() -> [bool; 756]
     ensures { length result ≡ most_half_edges }
 {
@@ -108,7 +112,7 @@ pub fn locate(chart: &Chart, q: GridPlace) -> Location
     requires { (seen chart.now).half_edges ≤ most_half_edges }
     ensures { result ≡ location_of (seen chart.now) (at q) }
 {
-    let mut room = lines::room();
+    let mut room = [Line::default(); lines::EDGES];
     lines::draw(chart, &mut room);
     let lines = Lines {
         chart: *chart,

@@ -1,4 +1,5 @@
 // What the scan of the edges has found of a load: its side of each half-edge.
+// That a number is below its count, each function asks: a type of a number with its chart would be no plainer.
 ghost use Rattle.geometry.specs.Grid.{at};
 ghost use Rattle.chart.specs.Seen.{seen};
 ghost use Rattle.locate.specs.Sides.{SidesOf};
@@ -62,7 +63,7 @@ impl Sides<'_> {
         self.chart.face(h) == 0 && self.is_left_of(h)
     }
 
-    // The lowest outer half-edge with q strictly left, or the count of half-edges.
+    // The lowest outer half-edge with q strictly left, or the count of half-edges: `Location` holds it, so an Option would be undone at the one call.
     pub fn find_outer(&self) -> usize
         ensures { result ≡ first (left_of_outer (seen self.now.chart) (at self.now.q)) (seen self.now.chart).half_edges }
     {

@@ -1,7 +1,8 @@
 -- What the arrays of a call's own hold while loops write them from the front. Assumes nothing.
 use Rattle.std.specs.Prelude.{◌≡◌, refl, List, [], ◌∷◌, ◌++◌, map, ℕ, suc, ◌+◌, ◌≤◌, ◌<◌, length, take, drop, get_or, set, Float}
-use Rattle.std.proofs.Common.{◌∙◌, append_assoc, ne_of_gt, add-one, arith, drop-cons, take-suc, take-suc-set, length-take-le, get_or-set_other}
+use Rattle.std.proofs.Common.{◌∙◌, append_assoc, ne_of_gt, add-one, arith, drop-cons, take-suc, take-suc-set, length-take-le, get_or-set_same, get_or-set_other}
 use Rattle.std.proofs.lemmas.List.{map-append, length-map, set_at, get_or_at}
+use Rattle.std.proofs.Math.Decide.{ℕ_discrete}
 use Rattle.std.specs.Float.{nan}
 use Rattle.chart.specs.Chart.{Chart}
 use Rattle.points.specs.declared.Point2.{Point2}
@@ -18,7 +19,15 @@ corner_y c q list k = (cell_corner c q (get_or list k 0)).y
 pub record Holds (f : ℕ → Float) (from upto : ℕ) (xs : List Float) : Type 0 where
   pub at : (k : ℕ) → from ≤ k → k < upto → get_or xs k nan ≡ f k
 
--- ---- from the element written over on, the others still hold
+-- ---- an array that a loop writes from the front: one more element holds
+pub holds-next : (f : ℕ → Float) (i : ℕ) (xs : List Float) → i < length xs → Holds f 0 i xs → Holds f 0 (i + 1) (set xs i (f i))
+holds-next f i xs l h = record { at = λ k a b. choose k (ℕ_discrete k i) b }
+  where
+    choose : (k : ℕ) → Dec (k ≡ i) → k < i + 1 → get_or (set xs i (f i)) k nan ≡ f k
+    choose k (yes e) b = rw e (get_or-set_same xs i (f i) nan l)
+    choose k (no n) b = get_or-set_other xs i k (f i) nan n ∙ h.at k (omega arith) (omega arith)
+
+-- from the one written over on, the others still hold
 pub holds-past : (f : ℕ → Float) (i n : ℕ) (xs : List Float) (v : Float) → Holds f i n xs → Holds f (i + 1) n (set xs i v)
 holds-past f i n xs v h =
     record { at = λ k a b. get_or-set_other xs i k v nan (ne_of_gt (omega arith)) ∙ h.at k (omega arith) b }
@@ -51,7 +60,17 @@ put_next f list old now i d e h k n = rw n (written (map f (take i list)) (map f
 pub unput : {A : Type 0} (f : A → A) (list now : List A) (i : ℕ) (d : A) → i < length list → now ≡ map f (take i list) ++ drop i list → get_or now i d ≡ get_or list i d
 unput f list now i d h n = rw n (unwritten (map f (take i list)) list i d (length-map-take f list i (omega arith)) h)
 
--- ---- arrays of one and of two elements, each written
+-- ---- one and two elements written at the front
+pub one-first : {A : Type 0} (l : List A) (a : A) → 1 ≤ length l → take 1 (set l 0 a) ≡ a ∷ []
+one-first [] a h = let z : ⊥ = omega arith in absurd z
+one-first (x ∷ l) a h = refl
+
+pub two-first : {A : Type 0} (l : List A) (a b : A) → 2 ≤ length l → take 2 (set (set l 0 a) 1 b) ≡ a ∷ b ∷ []
+two-first [] a b h = let z : ⊥ = omega arith in absurd z
+two-first (x ∷ []) a b h = let z : ⊥ = omega arith in absurd z
+two-first (x ∷ (y ∷ l)) a b h = refl
+
+-- arrays of one and of two elements, each written
 pub one_only : {A : Type 0} (l : List A) (a : A) → length l ≡ 1 → set l 0 a ≡ a ∷ []
 one_only [] a h = absurd (omega arith)
 one_only (x ∷ []) a h = refl

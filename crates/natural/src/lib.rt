@@ -1,4 +1,6 @@
 // Natural neighbour weights from the list of natural neighbour edges (01, "Weights"; `get_natural_neighbor_weights`).
+// Edges, owners and weights are slices side by side, as C lends them; they are written by index, since a proof knows nothing of what
+// `iter_mut().zip` lent.
 #![tactic(auto)]
 
 ghost use Rattle.std.specs.Prelude.{◌≡◌, ◌++◌, map, ℕ, ◌≤◌, ◌<◌, length, take, drop, get_or};
@@ -30,6 +32,7 @@ fn insertion_cell(list: &EdgeList, q: Point2, xs: &mut [f64], ys: &mut [f64])
 }
 
 // Each area divided by their sum.
+#[tactic(auto, using(crate::proofs::Steps::put_float))]
 fn divide_all(areas: &mut [f64], total: f64)
     ensures { areas.new ≡ map (λ area. area /f total) areas.old }
 {
@@ -64,6 +67,7 @@ fn turn_all(list: &EdgeList, q: Point2, xs: &mut [f64], ys: &[f64])
 }
 
 // The weights of two listed edges' starts.
+#[tactic(auto, using(crate::specs::Arrays::two_only))]
 fn two_shares(list: &EdgeList, q: Point2, xs: &mut [f64])
     requires two { length list.now.edges.now ≡ 2 }
     requires xs_length { length xs.old ≡ 2 }
@@ -98,7 +102,8 @@ pub fn natural_shares(list: &EdgeList, q: GridPlace, xs: &mut [f64], ys: &mut [f
     }
 }
 
-// The listed half-edges' starts, each in its half-edge's place. It takes the one table: a chart would ask more than it reads.
+// The listed half-edges' starts, each in its half-edge's place (so no `From`). It takes the one table: a chart would ask more than it reads.
+#[tactic(auto, using(crate::proofs::Steps::put_over, crate::proofs::Steps::unput_number))]
 pub fn to_origins(edges: &[usize], list: &mut [usize])
     requires { (k : ℕ) → k < length list.old → get_or list.old k 0 < rows edges.now }
     ensures { list.new ≡ map (origin_of edges.now) list.old }
@@ -108,7 +113,8 @@ pub fn to_origins(edges: &[usize], list: &mut [usize])
     }
 }
 
-// The listed edges' starts into the first elements of the caller's slice.
+// The listed edges' starts into the first elements of the caller's slice, by another reading than `query::copy_list`'s.
+#[tactic(auto, using(crate::proofs::Steps::put_number))]
 fn copy_origins(list: &EdgeList, owners: &mut [u64])
     requires { length list.now.edges.now ≤ length owners.old }
     ensures { owners.new ≡ map (seen list.now.chart).origin list.now.edges.now ++ drop (length list.now.edges.now) owners.old }
@@ -118,7 +124,8 @@ fn copy_origins(list: &EdgeList, owners: &mut [u64])
     }
 }
 
-// The listed edges' starts with their weights.
+// The listed edges' starts with their weights. The heights' room is of a fixed size, since there is no heap.
+#[tactic(auto, using(crate::proofs::Steps::settles))]
 pub fn natural_weights(list: &EdgeList, q: GridPlace, owners: &mut [u64], weights: &mut [f64])
     requires owners_room { length list.now.edges.now ≤ length owners.old }
     requires weights_room { length list.now.edges.now ≤ length weights.old }

@@ -1,9 +1,13 @@
 // The edges of the natural neighbours of a load, by the kind of its location (01, "Weights"; `get_natural_neighbor_edges`).
+// That a number is below its count, each function asks: a type of a number with its chart would be no plainer.
+// So it is with `most_faces`, which `flips` asks.
 #![tactic(auto)]
 
-ghost use Rattle.std.specs.Prelude.{◌≡◌, ◌<◌, ◌≤◌};
+ghost use Rattle.std.specs.Prelude.{◌≡◌, [], ◌<◌, ◌≤◌};
 ghost use Rattle.geometry.specs.Grid.{at};
 ghost use Rattle.chart.specs.Limits.{most_faces};
+ghost use Rattle.chart.specs.Tables.{rows};
+ghost use Rattle.chart.specs.Chart.{chart_of};
 ghost use Rattle.chart.specs.Seen.{seen};
 ghost use Rattle.locate.specs.Laws.{Holds};
 ghost use Rattle.neighbors.specs.Neighbors.{listed, face_neighbors, inner_edge_neighbors, hull_edge_neighbors, edge_neighbors, vertex_neighbors, part_of_convex_hull, neighbors_of};
@@ -47,25 +51,24 @@ pub fn inner_edge_neighbors(chart: &Chart, q: GridPlace, h: usize, out: &mut Hal
     found.count()
 }
 
-// On the hull edge of half-edge h: the pair, which the Rust does not reverse.
-pub fn hull_edge_neighbors(chart: &Chart, h: usize, out: &mut HalfEdges) -> usize
-    requires { h < (seen chart.now).half_edges }
+// On the hull edge of half-edge h: the pair, which the Rust does not reverse. It asks nothing of a chart, only that h has a partner.
+pub fn hull_edge_neighbors(h: usize, out: &mut HalfEdges) -> usize
+    requires { h < 9223372036854775807 }
     ensures { listed out.new.items result ≡ hull_edge_neighbors h }
 {
-    let partner = chart.partner(h);
     out.clear();
     out.push(h);
-    out.push(partner);
+    out.push(chart::partner_of(h));
     0
 }
 
-// At vertex v: its out half-edge.
-pub fn vertex_neighbors(chart: &Chart, v: usize, out: &mut HalfEdges) -> usize
-    requires { v < (seen chart.now).vertices }
-    ensures { listed out.new.items result ≡ vertex_neighbors (seen chart.now) v }
+// At vertex v: its out half-edge, for which the table of the vertices is enough.
+pub fn vertex_neighbors(vertices: &[i64], v: usize, out: &mut HalfEdges) -> usize
+    requires { v < rows vertices.now }
+    ensures { listed out.new.items result ≡ vertex_neighbors (chart_of vertices.now [] []) v }
 {
     out.clear();
-    out.push(chart.out(v));
+    out.push(chart::out_of(vertices, v));
     0
 }
 
@@ -85,7 +88,7 @@ pub fn edge_neighbors(chart: &Chart, q: GridPlace, h: usize, out: &mut HalfEdges
     ensures { listed out.new.items result ≡ edge_neighbors (seen chart.now) (at q) h }
 {
     if is_part_of_convex_hull(chart, h) {
-        return hull_edge_neighbors(chart, h, out);
+        return hull_edge_neighbors(h, out);
     }
     inner_edge_neighbors(chart, q, h, out)
 }
@@ -103,7 +106,7 @@ pub fn get_natural_neighbor_edges(
     ensures { listed out.new.items result ≡ neighbors_of (seen chart.now) (at q) location }
 {
     match location {
-        Location::OnVertex(v) => vertex_neighbors(chart, v, out),
+        Location::OnVertex(v) => vertex_neighbors(chart.vertices, v, out),
         Location::OnEdge(h) => edge_neighbors(chart, q, h, out),
         Location::OnFace(f) => face_neighbors(chart, q, f, out),
         Location::OutsideOfConvexHull(_) => {

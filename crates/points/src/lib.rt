@@ -1,4 +1,5 @@
 // Points and projections in f64, as point.rs and math.rs have them, and the chart's whole numbers taken over into f64.
+// That a number is below its count, each function asks: a type of a number with its chart would be no plainer.
 #![tactic(auto)]
 
 ghost use Rattle.std.specs.Prelude.{◌≡◌, false, ◌<◌, pos};
@@ -14,6 +15,7 @@ use chart::Chart;
 use geometry::GridPlace;
 use std::ops::{Add, Sub};
 
+// Beside `gradient::Gradient` and `Vector3`: a point, a slope and a normal are no one type.
 #[derive(Clone, Copy)]
 pub struct Point2 {
     pub x: f64,
@@ -122,7 +124,7 @@ pub fn circumcenter(v0: Point2, v1: Point2, v2: Point2) -> Point2
     Point2 { x, y } + v0
 }
 
-// The one cast of a whole number: `as` is the machine's own instruction, where nearest_i64_to_f64 is six times slower.
+// The one cast of a whole number: `as` is the machine's own instruction, where nearest_i64_to_f64 is six times slower. f64 is `From` no i64.
 pub fn to_f64(z: i64) -> f64
     requires { Within exact_max z }
     ensures { result ≡ real_of z }

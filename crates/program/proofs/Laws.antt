@@ -1,5 +1,5 @@
 -- The batch of a log's entries on the program's fresh book, and what is printed.
-use Prim.Native.Nat.{ℕ, zero, suc, ◌/◌, ◌%◌, ◌≤◌}
+use Prim.Native.Nat.{ℕ, zero, suc, ◌/◌, ◌%◌, ◌≤◌, ◌<◌}
 use mathlib.Core.List.{List}
 use mathlib.Core.Bool.{false}
 use mathlib.Core.Path.{◌≡◌, refl, ap, sym, ◌∙◌}
@@ -8,6 +8,7 @@ use borrow.Author.Tests.{eq-eqb, le-ltb}
 use lib.IntN.{ℤ}
 use lib.ListN.{length, take, drop}
 use lib.Seq.{take_at, length-take-le}
+use Rattle.refusal.specs.Number.{number-positive}
 use Rattle.book.specs.declared.Book.{Book}
 use Rattle.book.specs.Returned.{Returned}
 use Rattle.book.specs.Books.{bad_book}
@@ -16,7 +17,7 @@ use Rattle.reading.specs.Reading.{chart_refusal_of}
 use Rattle.entries.specs.Entry.{entry_width, entries_of}
 use Rattle.accounts.specs.Batch.{Outcome, outcome, book_after, answers_from, batch_refusal, batch_of, by_refusal}
 use Rattle.accounts.proofs.Demand3.{entries-count, answers-length}
-use Rattle.log_text.specs.Log.{entries_max, log_of}
+use Rattle.log_text.specs.Log.{Log, entries_max, log_of}
 use Rattle.log_text.specs.Log.Log.{entries, refused}
 use Rattle.report.specs.Lines.{refusal_line, program_sections}
 use Rattle.estivolh.specs.Account.{queries}
@@ -67,6 +68,15 @@ module _ (chart : List ℕ) (es : List ℤ) (lent left : List ℕ) (b : Book) (w
       (answers-length queries chart (entries_of es) program_book ∙ entries-count es (length es / entry_width) 0)
 
 -- ---- what is printed, in the order of the refusals
+
+pub chart-first : (n : ℕ) (chart : List ℕ) (g : Log) → 0 < n → after_chart n chart g ≡ refusal_line n
+chart-first zero chart g h = absurd (omega arith)
+chart-first (suc n) chart g h = refl
+
+pub log-next : (n k : ℕ) (chart : List ℕ) → n ≡ 0 → after_chart n chart (refused k) ≡ refusal_line k
+log-next n k chart e = ap (λ (x : ℕ). after_chart x chart (refused k)) e
+
+pub ruleset refusals = (chart-first, log-next, number-positive)
 
 pub chart-refused : (chart : List ℕ) (es : List ℤ) (k : ℕ) → chart_refusal_of chart ≡ k → (k ≡ 0 → ⊥) → entries_printed chart es ≡ refusal_line k
 chart-refused chart es zero e h = absurd (h refl)

@@ -6,7 +6,6 @@ ghost use Rattle.refusal.specs.Number.{number};
 ghost use Rattle.book.specs.Returned.{returned_of};
 ghost use Rattle.accounts.specs.Batch.{outcome, batch_of};
 ghost use Rattle.estivolh.specs.Account.{queries};
-ghost use Rattle.log_text.specs.Log.{entries_max};
 ghost use Rattle.report.specs.Lines.{refusal_line};
 ghost use Rattle.program.specs.Program.{program_book, output_max, entries_printed, refusal_printed, printed_of, Printed, WholeEntries};
 
@@ -14,14 +13,8 @@ use book::Book;
 use entries::ENTRY_WIDTH;
 use refusal::Refusal;
 
-// Room for the answers of the longest log.
-fn answer_room() -> [u64; 512]
-    ensures { length result ≡ entries_max }
-{
-    [0u64; 512]
-}
-
 // What refuses a chart and a log that is refused: chart first.
+#[tactic(auto, using(crate::proofs::Laws::refusals))]
 fn first_refusal(chart: &[u8], log: Refusal) -> Refusal
     ensures { refusal_line (number result) ≡ refusal_printed chart.now (number log) }
 {
@@ -46,7 +39,7 @@ fn print_entries(chart: &[u8], entries: &[i64], out: &mut [u8]) -> usize
     requires room { output_max ≤ length out.old }
     ensures { Printed out.old (entries_printed chart.now entries.now) out.new result }
 {
-    let mut answers = answer_room();
+    let mut answers = [0u64; log_text::ENTRIES_MAX];
     match batch_on_fresh(chart, entries, &mut answers) {
         Ok(book) => {
             let n = entries.len() / ENTRY_WIDTH;
@@ -57,12 +50,12 @@ fn print_entries(chart: &[u8], entries: &[i64], out: &mut [u8]) -> usize
 }
 
 // What the program prints for a chart and a log of `size` bytes, of which the first that an accepted log can have are enough.
-// How many bytes of `out` that is.
+// How many bytes of `out` that is. `size` is no length of `log`: a log may be longer than what is kept of it.
 pub fn print(chart: &[u8], size: usize, log: &[u8], out: &mut [u8]) -> usize
     requires { output_max ≤ length out.old }
     ensures { Printed out.old (printed_of chart.now size log.now) out.new result }
 {
-    let mut entries = log_text::entry_room();
+    let mut entries = [0; log_text::NUMBERS_MAX];
     match log_text::read_log(size, log, &mut entries) {
         Ok(n) => print_entries(chart, &entries[..ENTRY_WIDTH * n], out),
         Err(refusal) => report::put_refusal(out, first_refusal(chart, refusal).number()),

@@ -1,4 +1,5 @@
 // The queries on checked tables, behind the refusals 12 to 14.
+// Each writes out the two or three lines in which it is like another (13, the place, 14; the search): one function of them would owe more clauses.
 #![tactic(auto)]
 
 ghost use Rattle.std.specs.Prelude.{◌≡◌, ◌++◌, ◌≤◌, Ok, length, drop};
@@ -57,7 +58,8 @@ pub struct Listed {
     pub opened: usize,
 }
 
-// A list into the first elements of a lent slice.
+// A list into the first elements of a lent slice: `copy_from_slice` takes one type on both sides.
+#[tactic(auto, using(crate::proofs::Copied::copied))]
 fn copy_list(list: &[usize], out: &mut [u64])
     requires { length list.now ≤ length out.old }
     ensures { out.new ≡ list.now ++ drop (length list.now) out.old }
@@ -83,7 +85,7 @@ fn edges_at(accepted: &AcceptedChart, q: GridPlace, place: Location, out: &mut [
 }
 
 // On checked tables: 13, 14, then the edges.
-#[tactic(auto, unfolding(crate::specs::Natural::edges_on))]
+#[tactic(auto, unfolding(crate::specs::Natural::edges_on), using(locate::proofs::Laws::located))]
 pub fn edges_on(accepted: &AcceptedChart, q: Place, out: &mut [u64]) -> Result<Listed, Refusal>
     requires { (seen accepted.now.chart).half_edges ≤ length out.old }
     ensures { edges_left result out.new ≡ edges_on (seen accepted.now.chart) q out.old }
@@ -121,7 +123,7 @@ fn shares_at(
 }
 
 // On checked tables: 13, 14, then the weights.
-#[tactic(auto, unfolding(crate::specs::Natural::shares_on))]
+#[tactic(auto, unfolding(crate::specs::Natural::shares_on), using(locate::proofs::Laws::located))]
 pub fn shares_on(
     accepted: &AcceptedChart,
     q: Place,

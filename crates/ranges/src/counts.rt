@@ -18,6 +18,7 @@ impl Counts {
     ghost use Rattle.ranges.specs.Ranges.{counts_refused};
 
     // 4: vertices not 3 to 128; half-edges odd or not 6 to 756; faces not 2 to 252.
+    #[tactic(auto, using(crate::specs::Passed::counted))]
     pub fn new(vertices: usize, half_edges: usize, faces: usize) -> Result<Counts, Refusal>
         ensures refused { refusal_of result ≡ cond (counts_refused (pos vertices) (pos half_edges) (pos faces)) 4 0 }
         ensures same { IfOk result (λ c. (c.vertices ≡ vertices) × ((c.half_edges ≡ half_edges) × (c.faces ≡ faces))) }

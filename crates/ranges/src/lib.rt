@@ -1,4 +1,5 @@
 // Refusals 4 and 6: the counts, and the range of every number, of three tables of whole numbers in file order.
+// That an index is below a count of rows, each function asks: a row's number belongs to a table only beside it, and a type of the two would be no plainer.
 #![tactic(auto)]
 
 ghost use Rattle.std.specs.Prelude.{◌≡◌, not, ◌<◌, length, pos};
@@ -26,13 +27,14 @@ fn passes(vertices: usize, half_edges: usize, faces: usize) -> bool
 }
 
 // Whether a number is negative or not below the count n.
+#[tactic(auto, unfolding(crate::specs::Ranges::not_below))]
 pub fn is_not_below(n: usize, z: i64) -> bool
     ensures { result ≡ not_below n z }
 {
     z < 0 || n <= chart::to_unsigned(z)
 }
 
-// Whether the number in row r and column k of a table is negative or not below the count n.
+// Whether the number in row r and column k of a table is negative or not below n, the count of what it names (no length of this slice).
 fn cell_not_below(table: &[i64], r: usize, k: usize, n: usize) -> bool
     requires { (r < rows table.now) × (k < 4) }
     ensures { result ≡ not_below n (cell table.now r k) }
@@ -80,18 +82,21 @@ fn is_bad_face(faces: &[i64], edges: usize, f: usize) -> bool
     is_not_below(edges, faces[f])
 }
 
+#[tactic(auto, using(whole::proofs::Scans::scans))]
 fn some_bad_vertex(vertices: &[i64], edges: usize) -> bool
     ensures { result ≡ some (bad_vertex edges vertices.now) (rows vertices.now) }
 {
     (0..vertices.len() / 4).any(|v| is_bad_vertex(vertices, edges, v))
 }
 
+#[tactic(auto, using(whole::proofs::Scans::scans))]
 fn some_bad_half_edge(edges: &[i64], vertices: usize, faces: usize) -> bool
     ensures { result ≡ some (bad_half_edge vertices faces edges.now) (rows edges.now) }
 {
     (0..edges.len() / 4).any(|h| is_bad_half_edge(edges, vertices, faces, h))
 }
 
+#[tactic(auto, using(whole::proofs::Scans::scans))]
 fn some_bad_face(faces: &[i64], edges: usize) -> bool
     ensures { result ≡ some (bad_face edges faces.now) (length faces.now) }
 {

@@ -1,6 +1,6 @@
 -- Laws of the definitions of specs/Reading.antt, a step at a time. Assumes nothing.
-use Rattle.std.specs.Prelude.{Result, Ok, Err, IfOk, ℕ, zero, suc, ◌+◌, ◌*◌, ◌≤◌, ◌<◌, List, Bool, true, false, cond, ◌≡◌, length, drop, ℤ, pos, negsuc}
-use Rattle.std.proofs.Common.{refl, ap, ◌∙◌, arith, lt-ltb, le-ltb, eq-eqb, ne_eqb}
+use Rattle.std.specs.Prelude.{Option, Some, None, is_some, ok_or, Result, Ok, Err, is_ok, IfOk, ℕ, zero, suc, ◌+◌, ◌*◌, ◌≤◌, ◌<◌, List, Bool, true, false, cond, ◌≡◌, length, drop, ℤ, pos, negsuc}
+use Rattle.std.proofs.Common.{refl, sym, ap, ◌∙◌, arith, lt-ltb, le-ltb, eq-eqb, ne_eqb}
 use Rattle.refusal.specs.declared.Refusal.{Refusal}
 use Rattle.refusal.specs.Number.{refusal_of, number-positive}
 use Rattle.tables.specs.Table.{Cells, given, line_of, table_of, line_bytes}
@@ -21,6 +21,27 @@ head-short s h = ap (λ (b : Bool). cond b (Refused 3) (head_line (line_of 3 s))
 pub head-line : (s : List ℕ) (c : Cells) → head_length ≤ length s → line_of 3 s ≡ c → head_of s ≡ head_line c
 unfolding head_of
 head-line s c h e = ap (λ (b : Bool). cond b (Refused 3) (head_line (line_of 3 s))) (le-ltb (length s) head_length h) ∙ ap head_line e
+
+-- what `ok_or` makes of nothing, and of something
+is_ok_or : {A E : Type 0} (o : Option A) (e : E) → is_ok (ok_or o e) ≡ is_some o
+is_ok_or (Some a) e = refl
+is_ok_or None e = refl
+
+err_in : {A E : Type 0} → E → Result A E → E
+err_in d (Ok a) = d
+err_in d (Err x) = x
+
+err-or : {A E : Type 0} (o : Option A) (e : E) → err_in e (ok_or o e) ≡ e
+unfolding err_in
+err-or (Some a) e = refl
+err-or None e = refl
+
+pub none-err : {A E : Type 0} (o : Option A) (e x : E) → Err x ≡ ok_or o e → (is_some o ≡ false) × (x ≡ e)
+unfolding err_in
+none-err o e x h = (sym (is_ok_or o e) ∙ sym (ap is_ok h), ap (err_in e) h ∙ err-or o e)
+
+pub some-ok : {A E : Type 0} (o : Option A) (e : E) (a : A) → Ok a ≡ ok_or o e → is_some o ≡ true
+some-ok o e a h = sym (is_ok_or o e) ∙ sym (ap is_ok h)
 
 -- ---- the rest
 pub body-length : (v e f : ℕ) (s : List ℕ) → (length s ≡ file_length v e f → ⊥) → body_of v e f s ≡ malformed 3
@@ -76,3 +97,9 @@ said-counts false (Err r) v e f n s = let p = number-positive r in let o : ⊥ =
 pub counts-said : (r : Result KnownCounts Refusal) (v e f : ℤ) → refusal_of r ≡ cond (counts_refused (pos (unsigned v)) (pos (unsigned e)) (pos (unsigned f))) 4 0 → IfOk r (λ c. (c.vertices ≡ unsigned v) × ((c.half_edges ≡ unsigned e) × (c.faces ≡ unsigned f))) → head_says r ≡ counts_of v e f
 unfolding counts_of
 counts-said r v e f n s = said-counts (counts_refused v e f) r (unsigned v) (unsigned e) (unsigned f) (n ∙ rw (unsigned-refused v e f)) s
+
+pub ruleset heads = (counts-said, none-err, some-ok)
+
+pub ruleset bodies = (body-length, body-three, body-second, body-last)
+
+pub ruleset loads = (load-refused, number-positive)

@@ -28,7 +28,7 @@ impl Refusal {
     ghost use Rattle.std.specs.Prelude.{◌≡◌};
     ghost use Rattle.refusal.specs.Number.{number};
 
-    // The number that callers see.
+    // The number that callers see. A method and no `From` or `Display`: it is asked for by its name, where numbers go out.
     pub fn number(self) -> u64
         ensures { result ≡ number self }
     {

@@ -1,5 +1,5 @@
 -- Laws of specs/: a column and a line at a time.
-use Prim.Native.Nat.{ℕ, suc, ◌+◌, ◌≤◌, ◌<◌}
+use Prim.Native.Nat.{ℕ, suc, ◌+◌, ◌*◌, ◌≤◌, ◌<◌}
 use mathlib.Core.List.{List, [], ◌∷◌, ◌++◌, append_assoc, append-nil}
 use mathlib.Core.Path.{◌≡◌, refl, ap, sym, ◌∙◌}
 use native.Mathlib.Omega.{arith}
@@ -7,11 +7,10 @@ use native.Mathlib.Nat.{add-zero}
 use native.Mathlib.Numerals.{add-one}
 use lib.ListN.{length, take, get_or}
 use lib.Seq.{take-suc, length-take-le}
-use lib.IntN.{pos}
 use Rattle.text.specs.RoundTrip.{field-length}
-use Rattle.columns.specs.Printed.{printed}
-use Rattle.columns.specs.Laid.{laid, then-laid}
-use Rattle.report.specs.Lines.{answer_line, answer_lines, section_line, section_lines}
+use Rattle.columns.specs.Laid.{laid, laid_none, then-laid}
+use Rattle.report.specs.Lines.{answer_bytes, answer_line, answer_lines, section_line, section_lines}
+use Rattle.report.specs.Laws.{answers-length, sections-length}
 
 -- One answer more at the end.
 answers-snoc : (j a : ℕ) (s : List ℕ) → answer_lines j (s ++ (a ∷ [])) ≡ answer_lines j s ++ answer_line (j + length s) a
@@ -42,7 +41,20 @@ pub sections-next : (wear bends : List ℕ) (k : ℕ) → section_lines wear ben
 unfolding section_lines
 sections-next wear bends k = rw (add-one k) refl
 
--- ---- what is put right after a number
-pub after_number : {m : ℕ} {mid new : List ℕ} (w n at : ℕ) (old t : List ℕ) → (m ≡ at + w) × (mid ≡ laid old at (printed w n)) → at + w ≤ length old → new ≡ laid mid m t
-    → new ≡ laid old at (printed w n ++ t)
-after_number {m} {mid} {new} w n at old t p room e = then-laid old at (printed w n) t w m mid new (field-length w (pos n)) room p.0 p.1 e
+-- ---- in the words in which the check takes them: nothing put, and a text right after a text; from a place on, and from 0 on
+pub put_none : (old : List ℕ) (at : ℕ) (s : List ℕ) → s ≡ [] → laid old at s ≡ old
+put_none old at s e = rw e (sym (laid_none old at))
+
+pub put_after : (old : List ℕ) (at m : ℕ) (s t : List ℕ) → m ≡ at + length s → at + length s ≤ length old → laid (laid old at s) m t ≡ laid old at (s ++ t)
+put_after old at m s t e room = then-laid old at s t (length s) m (laid old at s) (laid (laid old at s) m t) refl room e refl refl
+
+pub first_none : (old s : List ℕ) → s ≡ [] → laid old 0 s ≡ old
+first_none old s e = put_none old 0 s e
+
+pub first_after : (old : List ℕ) (m : ℕ) (s t : List ℕ) → m ≡ length s → length s ≤ length old → laid (laid old 0 s) m t ≡ laid old 0 (s ++ t)
+first_after old m s t e room = put_after old 0 m s t (omega arith) (omega arith)
+
+pub taken_length : (s : List ℕ) (i : ℕ) → i ≤ length s → length (answer_lines 1 (take i s)) ≡ answer_bytes * i
+taken_length s i h = rw (answers-length, length-take-le i s h) refl
+
+pub ruleset texts = (put_none, put_after, first_none, first_after, field-length, answers-length, sections-length, taken_length, answers-none, answers_next, sections-none, sections-next)

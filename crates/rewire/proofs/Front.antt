@@ -1,9 +1,9 @@
 -- What is written into arrays, seen in their first elements.
-use Rattle.std.specs.Prelude.{◌≡◌, refl, List, [], ◌∷◌, ℕ, ◌+◌, ◌*◌, ◌<◌, ℤ, pos, set, take}
+use Rattle.std.specs.Prelude.{◌≡◌, refl, List, [], ◌∷◌, ℕ, ◌+◌, ◌*◌, ◌<◌, ℤ, pos, length, get_or, set, take, reverse}
 use Rattle.std.proofs.Common.{sym, ap, ◌∙◌, arith, length-take}
 use Rattle.std.proofs.Math.Seq.{take-set-lt}
 use Rattle.std.proofs.Math.Decide.{dec_lt}
-use Rattle.std.proofs.lemmas.List.{set_past, take-set-le}
+use Rattle.std.proofs.lemmas.List.{set_past, take-set-le, take_more, reverse-append}
 use Rattle.patches.specs.declared.Row.{Row}
 use Rattle.rewire.specs.Tables.{row_in, triangle_in, triangles_in, faces_in, out_in}
 
@@ -42,3 +42,7 @@ pub take_faces : (m : ℕ) (fs : List ℕ) (rs : List Row) → take m (faces_in 
 unfolding faces_in
 take_faces m fs [] = refl
 take_faces m fs (r ∷ rs) = take_set m (faces_in fs rs) r.face r.key ∙ ap (λ (t : List ℕ). set t r.face r.key) (take_faces m fs rs)
+
+-- the triangles written, with one more
+pub one_more : (rs : List Row) (i : ℕ) (d : Row) → i < length rs → reverse (take (i + 1) rs) ≡ get_or rs i d ∷ reverse (take i rs)
+one_more rs i d l = ap reverse (take_more rs i d l) ∙ reverse-append (take i rs) (get_or rs i d ∷ [])

@@ -21,19 +21,12 @@ use Rattle.patches.specs.Insert.{insert_row₀, insert_row₁, insert_row₂, in
 use Rattle.patches.proofs.Insert.{insert-patch}
 use Rattle.patches.specs.Split.{split_row₀, split_row₁, split_row₂, split_row₃, split_rows, split_out, split}
 use Rattle.patches.proofs.Split.{split-patch}
-use Rattle.rewire.specs.Tables.{Inside, row_in, triangles_in, faces_in, out_in, Within, Fits, length-row, length-triangles, length-faces, triangles-origin, triangles-next, triangles-prev, triangles-face, faces-adjacent, length-out, out-place, out-value, out-out, skip, at₀, at₁, at₂, at₃}
-use Rattle.rewire.specs.declared.Tables.{Tables}
-use Rattle.rewire.specs.Front.{front_of, Roomy, row_of}
+use Rattle.rewire.specs.Tables.{Inside, row_in, triangles_in, faces_in, out_in, Within, Fits, length-row, length-triangles, length-faces, triangles-origin, triangles-next, triangles-prev, triangles-face, faces-adjacent, length-out, out-place, out-value, out-out, skip, at₀, at₁, at₂, at₃, row_of}
+use Rattle.rewire.specs.Front.{front_of, Long}
 use Rattle.rewire.proofs.Front.{take_row, take_out, take_triangles, take_faces}
 
 three : (P : Row → Type 0) {x y z : Row} → P x → P y → P z → All P (x ∷ y ∷ z ∷ [])
 three P {x} {y} {z} a b d = All-cons P x (y ∷ z ∷ []) a (All-cons P y (z ∷ []) b (All-cons P z [] d (All-nil P)))
-
--- the arrays are long enough for a vertex, six half-edges and two faces more
-pub record Long (vs : List ℤ) (es fs : List ℕ) (n h f : ℕ) : Type 0 where
-  pub vertices : 4 * (n + 1) ≤ length vs
-  pub half_edges : 4 * (h + 6) ≤ length es
-  pub faces : f + 2 ≤ length fs
 
 -- a number of the longer front that is not among those added is that of the shorter one
 front : {A : Type 0} (l : List A) (k m j : ℕ) (d : A) → k ≤ m → (k ≤ j → j < m → ⊥) → get_or (take m l) j d ≡ get_or (take k l) j d
@@ -196,13 +189,6 @@ module _ (vs : List ℤ) (es fs : List ℕ) (n h f : ℕ) (long : Long vs es fs 
 
         g-is : length (faces_in F rs) ≡ c.faces + 2
         g-is = length-faces F rs ∙ F-long ∙ ap (λ (k : ℕ). k + 2) (sym f-is)
-
-pub long_of : (t : Tables) → Roomy t.counts → length t.vertices ≡ 512 → length t.edges ≡ 3024 → length t.faces ≡ 252 → Long t.vertices t.edges t.faces t.counts.vertices t.counts.half_edges t.counts.faces
-long_of t r v e f =
-    let a = r.vertices in
-    let b = r.half_edges in
-    let d = r.faces in
-    record { vertices = omega arith; half_edges = omega arith; faces = omega arith }
 
 module _ {vs : List ℤ} {es fs : List ℕ} {n h f : ℕ} (long : Long vs es fs n h f) (w : Wired (front_of n h f vs es fs)) where
   abbrev o : Chart

@@ -1,3 +1,4 @@
 pub mod Front
 pub mod Flip
+pub mod Charts
 pub mod Grown

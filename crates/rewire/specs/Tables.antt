@@ -1,5 +1,5 @@
 -- Triangles written into the tables, and the columns that they leave. Assumes nothing.
-use Rattle.std.specs.Prelude.{◌≡◌, Bool, List, [], ◌∷◌, ℕ, zero, suc, ◌+◌, ◌*◌, ◌/◌, ◌<◌, eqb, ℤ, pos, length, get_or, set}
+use Rattle.std.specs.Prelude.{◌≡◌, Bool, List, [], ◌∷◌, ℕ, zero, suc, ◌+◌, ◌*◌, ◌/◌, ◌≤◌, ◌<◌, eqb, ℤ, pos, length, get_or, set}
 use Rattle.std.proofs.Math.Path.{refl, ap}
 use Rattle.std.proofs.Common.{sym, subst, ◌∙◌, arith, eqb-true}
 use Rattle.std.proofs.Math.Bool.{true, false, cond}
@@ -8,7 +8,7 @@ use Rattle.std.proofs.Math.Seq.{get_or-set_same, get_or-set_other}
 use Rattle.std.proofs.lemmas.Bool.{eqb-false}
 use Rattle.chart.specs.Tables.{unsigned, rows, place_of, value_of, out_of, origin_of, next_of, prev_of, face_of, adjacent_of}
 use Rattle.patches.specs.declared.Row.{Row}
-use Rattle.patches.specs.Rows.{turn, hit, hit_of, face_hit}
+use Rattle.patches.specs.Rows.{row_from, turn, hit, hit_of, face_hit}
 use Rattle.patches.specs.Patch.{from_by, next_by, prev_by, face_by, key_by, put}
 
 -- a half-edge's row
@@ -368,3 +368,13 @@ row-outed vs us v x y z h l e =
 
 pub new_then : (n : ℕ) (vs us ws : List ℤ) → NewOut n vs us → KeepsOuts us ws → NewOut n vs ws
 new_then n vs us ws a k = record { keeps = λ u o. k u (a.keeps u o); new = k n a.new }
+
+-- ---- the row of a half-edge of a table, as it stands
+abbrev pub row_of : List ℕ → ℕ → Row
+row_of es h = row_from h (next_of es h) (prev_of es h) (face_of es h) (origin_of es h) (origin_of es (next_of es h)) (origin_of es (prev_of es h))
+
+-- tables of n vertices, h half-edges and f faces stand in the first elements of these
+pub record FrontFits (n h f : ℕ) (vs : List ℤ) (es fs : List ℕ) : Type 0 where
+  pub vertices : 4 * n ≤ length vs
+  pub half_edges : 4 * h ≤ length es
+  pub faces : f ≤ length fs

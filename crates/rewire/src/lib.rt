@@ -2,7 +2,6 @@
 #![tactic(auto)]
 
 ghost use Rattle.std.specs.Prelude.{◌≡◌, [], ◌∷◌, ◌+◌, ◌*◌, ◌<◌, pos, length, set, take, reverse, All};
-ghost use Rattle.geometry.specs.Grid.{at};
 ghost use Rattle.chart.specs.Tables.{rows, next_of, prev_of};
 ghost use Rattle.chart.specs.Chart.{partner, InRange};
 ghost use Rattle.chart.specs.Seen.{seen};
@@ -11,34 +10,44 @@ ghost use Rattle.patches.specs.Wired.{Wired};
 ghost use Rattle.patches.specs.Flip.{flip_row, flipped};
 ghost use Rattle.patches.specs.Insert.{insert_row₀, insert_row₁, insert_row₂, inserted};
 ghost use Rattle.patches.specs.Split.{split_row₀, split_row₁, split_row₂, split_row₃, split};
-ghost use Rattle.rewire.specs.Tables.{row_in, triangle_in, triangles_in, faces_in, out_in, Inside, KeepsOuts, NewOut};
-ghost use Rattle.rewire.specs.Front.{shown, Roomy, row_of};
+ghost use Rattle.rewire.specs.Tables.{row_in, triangle_in, triangles_in, faces_in, out_in, Inside, KeepsOuts, NewOut, row_of, FrontFits};
 
 use chart::Chart;
-use geometry::GridPlace;
+use geometry::Place;
 use patches::Row;
-use ranges::Counts;
 
-// The tables of a chart, each in front of an array for the largest one; the counts say how far.
+// The tables of a chart of so many vertices, half-edges and faces, in the first elements of lent slices, which may have room behind for more.
+// `InRange`, `Wired` and `Roomy` stand at the operations: a vertex goes in with the last two alone and may leave no room, so none is the type's to ask.
 #[derive(Drop)]
-pub struct Tables {
-    pub vertices: [i64; 512],
-    pub edges: [usize; 3024],
-    pub faces: [usize; 252],
-    pub counts: Counts,
+pub struct Tables<'a> {
+    pub vertices: &'a mut [i64],
+    pub edges: &'a mut [usize],
+    pub faces: &'a mut [usize],
+    pub vertex_count: usize,
+    pub half_edge_count: usize,
+    pub face_count: usize,
+    pub ghost fits: { FrontFits vertex_count half_edge_count face_count vertices.now edges.now faces.now },
+}
+
+// Row r of a table: four numbers by their index, since the definitions read a chart off flat tables.
+#[tactic(auto, unfolding(crate::specs::Tables::row_in))]
+fn put_row<T: Copy>(table: &mut [T], r: usize, a: T, b: T, c: T, d: T)
+    requires { r < rows table.old }
+    ensures { table.new ≡ row_in table.old r a b c d }
+{
+    let at = r * 4;
+    table[at] = a;
+    table[at + 1] = b;
+    table[at + 2] = c;
+    table[at + 3] = d;
 }
 
 // The row of a half-edge.
-#[tactic(auto, unfolding(crate::specs::Tables::row_in))]
 fn put_half_edge(edges: &mut [usize], r: Row)
     requires { r.key < rows edges.old }
     ensures { edges.new ≡ row_in edges.old r.key r.from r.next r.prev r.face }
 {
-    let at = r.key * 4;
-    edges[at] = r.from;
-    edges[at + 1] = r.next;
-    edges[at + 2] = r.prev;
-    edges[at + 3] = r.face;
+    put_row(edges, r.key, r.from, r.next, r.prev, r.face);
 }
 
 // The three half-edges of a triangle, and its face.
@@ -55,6 +64,7 @@ pub fn put_triangle(edges: &mut [usize], faces: &mut [usize], r: Row)
 }
 
 // Triangles, one after the other.
+#[tactic(auto, using(crate::proofs::Front::one_more), unfolding(crate::specs::Tables::triangles_in, crate::specs::Tables::faces_in))]
 fn put_triangles(edges: &mut [usize], faces: &mut [usize], triangles: &[Row])
     requires { All (Inside edges.old faces.old) triangles.now }
     ensures edges { edges.new ≡ triangles_in edges.old (reverse triangles.now) }
@@ -75,34 +85,11 @@ pub fn set_out(vertices: &mut [i64], v: usize, h: usize)
 }
 
 // The row of vertex v.
-#[tactic(auto, unfolding(crate::specs::Tables::row_in))]
-fn put_vertex(vertices: &mut [i64], v: usize, q: GridPlace, value: i64, out: usize)
+fn put_vertex(vertices: &mut [i64], v: usize, q: Place, value: i64, out: usize)
     requires { (v < rows vertices.old) × (out < 9223372036854775807) }
     ensures { vertices.new ≡ row_in vertices.old v q.x q.y value (pos out) }
 {
-    let at = v * 4;
-    vertices[at] = q.x;
-    vertices[at + 1] = q.y;
-    vertices[at + 2] = value;
-    vertices[at + 3] = out as i64;
-}
-
-// The row of half-edge h as it stands.
-fn row_of(edges: &[usize], h: usize) -> Row
-    requires { (h < rows edges.now) × (next_of edges.now h < rows edges.now) × (prev_of edges.now h < rows edges.now) }
-    ensures { result ≡ row_of edges.now h }
-{
-    let next = chart::next_of(edges, h);
-    let prev = chart::prev_of(edges, h);
-    Row {
-        key: h,
-        next,
-        prev,
-        face: chart::face_of(edges, h),
-        from: chart::origin_of(edges, h),
-        to: chart::origin_of(edges, next),
-        apex: chart::origin_of(edges, prev),
-    }
+    put_row(vertices, v, q.x, q.y, value, out as i64);
 }
 
 // The triangle on half-edge e, whose partner is t, once the edge is turned about.
@@ -122,112 +109,116 @@ fn flip_row(chart: &Chart, e: usize, t: usize) -> Row
     }
 }
 
-// The triangles that replace r about a new vertex, in a chart with these counts: the vertex is across each of r's half-edges.
-fn insert_rows(r: Row, counts: Counts) -> [Row; 3]
-    ensures { result ≡ insert_row₂ r counts.vertices counts.half_edges counts.faces ∷ insert_row₁ r counts.vertices counts.half_edges counts.faces ∷ insert_row₀ r counts.vertices counts.half_edges ∷ [] }
-{
-    let Counts {
-        vertices: n,
-        half_edges: h,
-        faces: f,
-    } = counts;
-    let onward = r.turn();
-    let back = onward.turn();
-    [
-        Row {
-            next: h + 4,
-            prev: h + 3,
-            face: f + 1,
-            apex: n,
-            ..back
-        },
-        Row {
-            next: h + 2,
-            prev: h + 1,
-            face: f,
-            apex: n,
-            ..onward
-        },
-        Row {
-            next: h,
-            prev: h + 5,
-            apex: n,
-            ..r
-        },
-    ]
-}
+impl Tables<'_> {
+    ghost use Rattle.rewire.specs.Front.{shown, Roomy, SameLent};
 
-// The triangles that replace r and s, on both sides of an edge, about a new vertex on it.
-fn split_rows(r: Row, s: Row, counts: Counts) -> [Row; 4]
-    ensures { result ≡ split_row₃ r s counts.vertices counts.half_edges counts.faces ∷ split_row₂ s counts.vertices counts.half_edges counts.faces ∷ split_row₁ r s counts.vertices counts.half_edges ∷ split_row₀ r counts.vertices counts.half_edges ∷ [] }
-{
-    let Counts {
-        vertices: n,
-        half_edges: h,
-        faces: f,
-    } = counts;
-    let back = r.turn().turn();
-    let far = s.turn().turn();
-    [
-        Row {
-            key: h + 4,
-            next: h + 3,
-            face: f + 1,
-            to: n,
-            apex: s.from,
-            ..back
-        },
-        Row {
-            key: h + 2,
-            next: h + 1,
-            face: f,
-            to: n,
-            ..s
-        },
-        Row {
-            key: h,
-            to: n,
-            apex: r.from,
-            ..far
-        },
-        Row {
-            next: h + 5,
-            to: n,
-            ..r
-        },
-    ]
-}
-
-// The counts with a vertex more: it adds six half-edges and two faces.
-fn grown_counts(counts: Counts) -> Counts
-    requires { Roomy counts }
-    ensures vertices { result.vertices ≡ counts.vertices + 1 }
-    ensures half_edges { result.half_edges ≡ counts.half_edges + 6 }
-    ensures faces { result.faces ≡ counts.faces + 2 }
-{
-    Counts {
-        vertices: counts.vertices + 1,
-        half_edges: counts.half_edges + 6,
-        faces: counts.faces + 2,
-    }
-}
-
-impl Tables {
     // The chart that they hold.
     pub fn chart(&self) -> Chart<'_>
         requires { InRange (shown self.now) }
         ensures shown { seen result ≡ shown self.now }
-        ensures front { result.vertices.now ≡ take (4 * self.now.counts.vertices) self.now.vertices }
-        ensures vertex_rows { length result.vertices.now ≡ 4 * self.now.counts.vertices }
-        ensures edge_rows { length result.edges.now ≡ 4 * self.now.counts.half_edges }
+        ensures front { result.vertices.now ≡ take (4 * self.now.vertex_count) self.now.vertices.now }
+        ensures vertex_rows { length result.vertices.now ≡ 4 * self.now.vertex_count }
+        ensures edge_rows { length result.edges.now ≡ 4 * self.now.half_edge_count }
     {
-        let a = 4 * self.counts.vertices;
-        let b = 4 * self.counts.half_edges;
+        let a = 4 * self.vertex_count;
+        let b = 4 * self.half_edge_count;
         Chart {
             vertices: &self.vertices[..a],
             edges: &self.edges[..b],
-            faces: &self.faces[..self.counts.faces],
+            faces: &self.faces[..self.face_count],
         }
+    }
+
+    // The row of half-edge h as it stands.
+    fn row(&self, h: usize) -> Row
+        requires { (h < rows self.now.edges.now) × (next_of self.now.edges.now h < rows self.now.edges.now) × (prev_of self.now.edges.now h < rows self.now.edges.now) }
+        ensures { result ≡ row_of self.now.edges.now h }
+    {
+        let next = chart::next_of(self.edges, h);
+        let prev = chart::prev_of(self.edges, h);
+        Row {
+            key: h,
+            next,
+            prev,
+            face: chart::face_of(self.edges, h),
+            from: chart::origin_of(self.edges, h),
+            to: chart::origin_of(self.edges, next),
+            apex: chart::origin_of(self.edges, prev),
+        }
+    }
+
+    // The triangles that replace r about a new vertex: it is across each of r's half-edges.
+    fn insert_rows(&self, r: Row) -> [Row; 3]
+        requires { Roomy self.now }
+        ensures { result ≡ insert_row₂ r self.now.vertex_count self.now.half_edge_count self.now.face_count ∷ insert_row₁ r self.now.vertex_count self.now.half_edge_count self.now.face_count ∷ insert_row₀ r self.now.vertex_count self.now.half_edge_count ∷ [] }
+    {
+        let n = self.vertex_count;
+        let h = self.half_edge_count;
+        let f = self.face_count;
+        let onward = r.turn();
+        let back = onward.turn();
+        [
+            Row {
+                next: h + 4,
+                prev: h + 3,
+                face: f + 1,
+                apex: n,
+                ..back
+            },
+            Row {
+                next: h + 2,
+                prev: h + 1,
+                face: f,
+                apex: n,
+                ..onward
+            },
+            Row {
+                next: h,
+                prev: h + 5,
+                apex: n,
+                ..r
+            },
+        ]
+    }
+
+    // The triangles that replace r and s, on both sides of an edge, about a new vertex on it.
+    fn split_rows(&self, r: Row, s: Row) -> [Row; 4]
+        requires { Roomy self.now }
+        ensures { result ≡ split_row₃ r s self.now.vertex_count self.now.half_edge_count self.now.face_count ∷ split_row₂ s self.now.vertex_count self.now.half_edge_count self.now.face_count ∷ split_row₁ r s self.now.vertex_count self.now.half_edge_count ∷ split_row₀ r self.now.vertex_count self.now.half_edge_count ∷ [] }
+    {
+        let n = self.vertex_count;
+        let h = self.half_edge_count;
+        let f = self.face_count;
+        let back = r.turn().turn();
+        let far = s.turn().turn();
+        [
+            Row {
+                key: h + 4,
+                next: h + 3,
+                face: f + 1,
+                to: n,
+                apex: s.from,
+                ..back
+            },
+            Row {
+                key: h + 2,
+                next: h + 1,
+                face: f,
+                to: n,
+                ..s
+            },
+            Row {
+                key: h,
+                to: n,
+                apex: r.from,
+                ..far
+            },
+            Row {
+                next: h + 5,
+                to: n,
+                ..r
+            },
+        ]
     }
 
     // Turns the edge of half-edge e about: it then joins the two corners across.
@@ -235,48 +226,55 @@ impl Tables {
         requires in_range { InRange (shown self.old) }
         requires e_below { e < (shown self.old).half_edges }
         ensures flipped { shown self.new ≡ flipped (shown self.old) e }
-        ensures outs { KeepsOuts self.old.vertices self.new.vertices }
+        ensures outs { KeepsOuts self.old.vertices.now self.new.vertices.now }
+        ensures lent { SameLent self.old self.new }
     {
         let chart = self.chart();
         let t = chart.partner(e);
         let first = flip_row(&chart, e, t);
         let second = flip_row(&chart, t, e);
-        put_triangles(&mut self.edges, &mut self.faces, &[second, first]);
-        set_out(&mut self.vertices, second.apex, second.prev);
-        set_out(&mut self.vertices, first.apex, first.prev);
+        put_triangles(self.edges, self.faces, &[second, first]);
+        set_out(self.vertices, second.apex, second.prev);
+        set_out(self.vertices, first.apex, first.prev);
     }
 
     // Divides the face of half-edge e in three about a new vertex at q.
-    pub fn insert_into_triangle(&mut self, e: usize, q: GridPlace, value: i64)
-        requires room { Roomy self.old.counts }
+    pub fn insert_into_triangle(&mut self, e: usize, q: Place, value: i64)
+        requires room { Roomy self.old }
         requires wired { Wired (shown self.old) }
         requires inner { Inner (shown self.old) e }
-        ensures inserted { shown self.new ≡ inserted (shown self.old) e (at q) value }
-        ensures outs { NewOut self.old.counts.vertices self.old.vertices self.new.vertices }
+        ensures inserted { shown self.new ≡ inserted (shown self.old) e q value }
+        ensures outs { NewOut self.old.vertex_count self.old.vertices.now self.new.vertices.now }
+        ensures lent { SameLent self.old self.new }
     {
-        let rows = insert_rows(row_of(&self.edges, e), self.counts);
-        put_triangles(&mut self.edges, &mut self.faces, &rows);
-        let out = self.counts.half_edges + 1;
-        put_vertex(&mut self.vertices, self.counts.vertices, q, value, out);
-        self.counts = grown_counts(self.counts);
+        let rows = self.insert_rows(self.row(e));
+        put_triangles(self.edges, self.faces, &rows);
+        let out = self.half_edge_count + 1;
+        put_vertex(self.vertices, self.vertex_count, q, value, out);
+        self.vertex_count += 1;
+        self.half_edge_count += 6;
+        self.face_count += 2;
     }
 
     // Divides the two faces at half-edge e in four about a new vertex at q on it.
-    pub fn split_edge(&mut self, e: usize, q: GridPlace, value: i64)
-        requires room { Roomy self.old.counts }
+    pub fn split_edge(&mut self, e: usize, q: Place, value: i64)
+        requires room { Roomy self.old }
         requires wired { Wired (shown self.old) }
         requires inner { Inner (shown self.old) e }
         requires beyond { Inner (shown self.old) (partner e) }
-        ensures split { shown self.new ≡ split (shown self.old) e (at q) value }
-        ensures outs { NewOut self.old.counts.vertices self.old.vertices self.new.vertices }
+        ensures split { shown self.new ≡ split (shown self.old) e q value }
+        ensures outs { NewOut self.old.vertex_count self.old.vertices.now self.new.vertices.now }
+        ensures lent { SameLent self.old self.new }
     {
         let t = chart::partner_of(e);
-        let r = row_of(&self.edges, e);
-        let s = row_of(&self.edges, t);
-        let rows = split_rows(r, s, self.counts);
-        put_triangles(&mut self.edges, &mut self.faces, &rows);
-        put_vertex(&mut self.vertices, self.counts.vertices, q, value, t);
-        set_out(&mut self.vertices, s.from, self.counts.half_edges + 2);
-        self.counts = grown_counts(self.counts);
+        let r = self.row(e);
+        let s = self.row(t);
+        let rows = self.split_rows(r, s);
+        put_triangles(self.edges, self.faces, &rows);
+        put_vertex(self.vertices, self.vertex_count, q, value, t);
+        set_out(self.vertices, s.from, self.half_edge_count + 2);
+        self.vertex_count += 1;
+        self.half_edge_count += 6;
+        self.face_count += 2;
     }
 }

@@ -10,7 +10,8 @@ use Rattle.tables.specs.RoundTrip.{line-bytes, table-bytes}
 use Rattle.chart.specs.Tables.{rows}
 use Rattle.reading.specs.Reading.{head_length, file_length}
 use Rattle.reading.specs.Text.{chart_text}
-use Rattle.columns.specs.Laid.{laid, then-laid}
+use Rattle.reading.specs.RoundTrip.{text-length}
+use Rattle.columns.specs.Laid.{laid, laid_none, then-laid}
 
 line-by : (z : ℤ) (l m : List ℤ) → m ≡ z ∷ l → field_text field_width z ++ line_text l ≡ line_text m
 unfolding line_text
@@ -82,3 +83,9 @@ chart-put vs es fs lv le old x y z new a b c room lx ly ea eb ec px py pz p =
     then-laid old 0 (line_text k) (t ++ (u ++ w)) head_length a x new (line-bytes k) (omega arith) (omega arith) px
     (then-laid x a t (u ++ w) (line_bytes 4 * rows vs) b y new (table-bytes 4 (rows vs) vs lv) (omega arith) eb py
     (then-laid y b u w (line_bytes 4 * rows es) c z new (table-bytes 4 (rows es) es le) (omega arith) ec pz p))
+
+pub ruleset line = (line-next, line-last)
+
+pub ruleset table = (table-next, table-ends, laid_none)
+
+pub ruleset chart = (text-length, chart-put)

@@ -13,6 +13,7 @@ ghost use Rattle.columns.specs.Laid.{laid};
 use text::COLUMNS;
 
 // One line from `at`: a field for each number, then the line end. Here and below the answer is where what was put ends.
+#[tactic(auto, using(crate::proofs::Laws::line))]
 fn put_line(row: &[i64], out: &mut [u8], at: usize) -> usize
     requires { at + line_bytes (length row.now) ≤ length out.old }
     ensures { (result ≡ at + line_bytes (length row.now)) × (out.new ≡ laid out.old at (line_text row.now)) }
@@ -24,6 +25,8 @@ fn put_line(row: &[i64], out: &mut [u8], at: usize) -> usize
 }
 
 // `n` lines of `w` numbers from `at`. A line's place in the text is told by its number, so this goes over the numbers and not over `chunks_exact`.
+// `n` stands beside the slice: the caller has it from its counts, and a division of the length by `w` would owe that `w` is not 0.
+#[tactic(auto, using(crate::proofs::Laws::table))]
 fn put_table(cells: &[i64], w: usize, n: usize, out: &mut [u8], at: usize) -> usize
     requires w_bound { w ≤ fields_max }
     requires room { (length cells.now ≡ w * n) × (at + line_bytes w * n ≤ length out.old) }
@@ -38,6 +41,8 @@ fn put_table(cells: &[i64], w: usize, n: usize, out: &mut [u8], at: usize) -> us
 }
 
 // The text of three tables: line 1 with the counts, then a line for each vertex, half-edge and face.
+// Three slices of signed numbers, as C lends them and the file has them: no `Chart`.
+#[tactic(auto, using(crate::proofs::Laws::chart))]
 pub fn put_chart(vertices: &[i64], edges: &[i64], faces: &[i64], out: &mut [u8]) -> usize
     requires counted { Counted (rows vertices.now) (rows edges.now) (length faces.now) }
     requires whole_rows { (length vertices.now ≡ 4 * rows vertices.now) × (length edges.now ≡ 4 * rows edges.now) }

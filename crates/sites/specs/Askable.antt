@@ -1,6 +1,6 @@
 -- 13 and 25 as they are asked, before the location, and what they leave. Assumes nothing.
 use Rattle.std.specs.Prelude.{◌≡◌, refl, Bool, true, false, cond, ℕ, ◌≤◌, ◌<◌, eqb, ℤ, pos}
-use Rattle.std.proofs.Common.{arith}
+use Rattle.std.proofs.Common.{sym, ◌∙◌, arith, eq-eqb, ne_eqb}
 use Rattle.std.proofs.lemmas.Bool.{eqb-false}
 use Rattle.whole.specs.Bools.{or-false, never}
 use Rattle.whole.specs.Bound.{outside}
@@ -54,3 +54,18 @@ module _ (c : Chart) (q : Place) (z : ℤ) where
           let o = or-false (off_grid q) (outside (pos 0) (pos value_max) z) p in
           let n : c.vertices ≡ most_vertices → ⊥ = eqb-false c.vertices most_vertices s in
           record { few = omega arith; grid = on-grid q o.0; ranged = o.1 }
+
+-- ---- in the code's order
+module _ (q : Place) (z : ℤ) (v : ℕ) where
+  pub ask-off : (b : Bool) → b ≡ off_grid q → b ≡ true → 13 ≡ ask_refusal q z v
+  ask-off b e t = rw (sym e ∙ t) refl
+
+  module _ (a b : Bool) (e : a ≡ off_grid q) (s : a ≡ false) (f : b ≡ outside (pos 0) (pos value_max) z) where
+    pub ask-value : b ≡ true → 13 ≡ ask_refusal q z v
+    ask-value t = rw (sym e ∙ s, sym f ∙ t) refl
+
+    pub ask-full : b ≡ false → v ≡ most_vertices → 25 ≡ ask_refusal q z v
+    ask-full t l = rw (sym e ∙ s, sym f ∙ t, eq-eqb v most_vertices l) refl
+
+    pub ask-none : b ≡ false → (v ≡ most_vertices → ⊥) → 0 ≡ ask_refusal q z v
+    ask-none t l = rw (sym e ∙ s, sym f ∙ t, ne_eqb v most_vertices l) refl

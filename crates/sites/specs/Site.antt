@@ -1,6 +1,7 @@
 -- Where a new vertex goes in, from the location of its place, and what holds there. Assumes nothing.
 use Rattle.std.specs.Prelude.{◌≡◌, refl, Result, Ok, Err, Bool, ℕ, ◌<◌}
-use Rattle.std.proofs.Math.Path.{subst}
+use Rattle.std.proofs.Math.Path.{sym, subst, ap}
+use Rattle.std.proofs.Common.{◌∙◌}
 use Rattle.std.proofs.Math.Bool.{true, false, cond}
 use Rattle.std.proofs.lemmas.Bool.{eqb-false}
 use Rattle.whole.specs.Bools.{or-false, and-true, never}
@@ -119,3 +120,34 @@ no-site c q = by (location_of c q)
     by (OnEdge h) = edge (part_of_convex_hull c h) h
     by (OnFace f) = refl
     by (OutsideOfConvexHull h) = refl
+
+-- ---- the arms of the code
+module _ (c : Chart) (q : Place) (l : Location) (e : l ≡ location_of c q) where
+  at : {k : Location} → l ≡ k → location_of c q ≡ k
+  at p = sym e ∙ p
+
+  pub arm-edge-in : (h : ℕ) → l ≡ OnEdge h → h < c.half_edges
+  arm-edge-in h p = (located c q (OnEdge h) (sym (at p))).0
+
+  pub arm-face-in : (f : ℕ) → l ≡ OnFace f → f < c.faces
+  arm-face-in f p = (located c q (OnFace f) (sym (at p))).0
+
+  pub arm-vertex : (v : ℕ) → l ≡ OnVertex v → Err NoSite ≡ site_at c q
+  unfolding site_at site_of
+  arm-vertex v p = sym (ap (site_of c) (at p))
+
+  pub arm-outside : (h : ℕ) → l ≡ OutsideOfConvexHull h → Err NoSite ≡ site_at c q
+  unfolding site_at site_of
+  arm-outside h p = sym (ap (site_of c) (at p))
+
+  pub arm-hull : (h : ℕ) (b : Bool) → l ≡ OnEdge h → b ≡ part_of_convex_hull c h → b ≡ true → Err NoSite ≡ site_at c q
+  unfolding site_at site_of
+  arm-hull h b p s t = sym (ap (site_of c) (at p) ∙ ap (λ (x : Bool). cond x (Err NoSite) (Ok (Across h))) (sym s ∙ t))
+
+  pub arm-inner : (h : ℕ) (b : Bool) → l ≡ OnEdge h → b ≡ part_of_convex_hull c h → b ≡ false → Ok (Across h) ≡ site_at c q
+  unfolding site_at site_of
+  arm-inner h b p s t = sym (ap (site_of c) (at p) ∙ ap (λ (x : Bool). cond x (Err NoSite) (Ok (Across h))) (sym s ∙ t))
+
+  pub arm-face : (f g : ℕ) → l ≡ OnFace f → g ≡ c.adjacent f → Ok (Inside g) ≡ site_at c q
+  unfolding site_at site_of
+  arm-face f g p s = ap (λ (k : ℕ). Ok (Inside k)) s ∙ sym (ap (site_of c) (at p))

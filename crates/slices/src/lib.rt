@@ -1,5 +1,6 @@
 // Answers and books in lent slices, for the calls exported for C: each function writes what an answer says into the first elements and returns its number, 0
 // where it is accepted; a refusal writes nothing.
+// How long a lent slice is at least stays a clause: C lends the slice, and the exported call tests its length.
 #![tactic(auto)]
 
 ghost use Rattle.std.specs.Prelude.{◌≡◌, [], ◌∷◌, ◌+◌, ◌≤◌, length, take, drop};
@@ -49,9 +50,7 @@ fn sixteen(numbers: &[u64], at: usize) -> [u64; SECTION_MAX]
     requires { at + section_max ≤ length numbers.now }
     ensures { result ≡ take section_max (drop at numbers.now) }
 {
-    let mut all = [0u64; SECTION_MAX];
-    all.copy_from_slice(&numbers[at..at + SECTION_MAX]);
-    all
+    <[u64; SECTION_MAX]>::try_from(&numbers[at..at + SECTION_MAX]).unwrap()
 }
 
 // The book whose numbers stand in a slice.
@@ -187,7 +186,7 @@ pub fn put_gradient(answer: Result<Gradient, Refusal>, out: &mut [f64]) -> u64
     0
 }
 
-// A value.
+// A value. One generic function of this and `put_number` would say its two cases apart, and each of their three clauses would be a lemma over it: no plainer.
 pub fn put_value(answer: Result<f64, Refusal>, out: &mut [f64]) -> u64
     requires { 1 ≤ length out.old }
     ensures { left result out.new ≡ value_left (value_says answer) out.old }

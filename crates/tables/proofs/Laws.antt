@@ -11,7 +11,8 @@ use borrow.Rule.Slice.PartMut.{put_mid, post_of}
 use lib.Seq.{drop-drop, take-suc-set, get_or-drop, take_all, take_at}
 use lib.Dec.{eqb}
 use lib.IntN.{ℤ}
-use Rattle.std.specs.Prelude.{Some, None}
+use Rattle.std.specs.Prelude.{Some, None, is_some}
+use Rattle.std.specs.Bool.{then_some}
 use Rattle.text.specs.Field.{field_of, field_width}
 use Rattle.tables.specs.Table.{Cells, given, before, join, cell_of, line_of, line_bytes, table_of}
 use Rattle.tables.specs.Table.Cells.{cells, bad}
@@ -40,6 +41,8 @@ join-nil bad = refl
 pub table-one : (w : ℕ) (s : List ℕ) → table_of w 1 s ≡ line_of w s
 unfolding table_of
 table-one w s = join-nil (line_of w s)
+
+pub ruleset lines = (table-one)
 
 -- A line that has a field.
 line-by : (w k : ℕ) → w ≡ suc k → (s : List ℕ) → line_of w s ≡ join (cell_of (field_of (take field_width s))) (line_of k (drop field_width s))
@@ -141,3 +144,8 @@ pub part-line : (text : List ℕ) (xs row : List ℤ) (pos a w : ℕ) (r b : Boo
     → line_of (length (take (a + w - a) (drop a xs))) (drop pos text) ≡ given r row → r ≡ b → line_of w (drop pos text) ≡ given b row
 part-line text xs row pos a w r b h e t =
     ap (λ (k : ℕ). line_of k (drop pos text)) (sym (part_length xs a w h)) ∙ e ∙ ap (λ (x : Bool). given x row) t
+
+-- A test that becomes an Option: whether there is something is the test.
+pub some-then : (b : Bool) → is_some (then_some b (tt {0})) ≡ b
+some-then true = refl
+some-then false = refl

@@ -8,7 +8,8 @@ use native.Mathlib.Omega.{arith}
 use native.Mathlib.Decide.{ℕ_discrete}
 use native.Mathlib.Nat.{pow-succ', pow-le-pow_right, zero-add}
 use native.Mathlib.Numerals.{add-one, one-add}
-use lib.ListN.{length, take, drop, get_or, length-append, length-drop}
+use mir.Facts.{to_z_pos}
+use lib.ListN.{length, take, drop, get_or, length-append, length-drop, drop_of_length-le}
 use lib.IntN.{ℤ, pos, negsuc}
 use lib.Seq.{take_all, drop-cons, drop-drop}
 use lib.Dec.{eqb, leb, lit<}
@@ -464,10 +465,6 @@ minus-first : (d : List ℕ) → eqb (get_or d 0 0) 45 ≡ true → d ≡ 45 ∷
 minus-first [] e = absurd (true≢false (sym e))
 minus-first (b ∷ d) e = rw (eqb-true b 45 e) refl
 
--- They are some.
-pub minus-some : (d : List ℕ) → eqb (get_or d 0 0) 45 ≡ true → 0 < length d
-minus-some d e = rw (minus-first d e) (omega arith)
-
 -- A field whose digits begin with a minus sign.
 pub field-minus : (s : List ℕ) → 0 < length s → eqb (get_or (digits_of s) 0 0) 45 ≡ true
     → field_of s ≡ below_zero (number_if (plain (drop 1 (digits_of s))) (drop 1 (digits_of s)))
@@ -489,3 +486,65 @@ last-by s b h e (no p) (no q) =
 -- A field with spaces in all columns but the last.
 pub field-last : (s : List ℕ) (b : ℕ) → 0 < length s → digits_of s ≡ digits_of (b ∷ []) → number_if (figures (b ∷ [])) (b ∷ []) ≡ field_of s
 field-last s b h e = last-by s b h e (ℕ_discrete b 32) (ℕ_discrete b 45)
+
+-- ---- a field of which spaces are passed
+
+-- Spaces passed, of those that a field begins with.
+past : (s : List ℕ) (i : ℕ) → i ≤ length s → i ≤ spaces_of s → spaces_of s ≡ i + spaces_of (drop i s)
+past s i l h = spaces-pass s i l (λ k m. space-at s k (omega arith))
+
+-- One more.
+one-past : (s : List ℕ) (i : ℕ) → i < length s → i ≤ spaces_of s → get_or s i 0 ≡ 32 → i + 1 ≤ spaces_of s
+one-past s i l h e = omega (arith, past s i (omega arith) h, spaces-more s i l e)
+
+pub six : (s : List ℕ) → length s ≡ 8 → 5 ≤ spaces_of s → get_or s 5 0 ≡ 32 → 6 ≤ spaces_of s
+six s l h e = one-past s 5 (omega arith) h e
+
+pub seven : (s : List ℕ) → length s ≡ 8 → 6 ≤ spaces_of s → get_or s 6 0 ≡ 32 → 7 ≤ spaces_of s
+seven s l h e = one-past s 6 (omega arith) h e
+
+-- The digits, where the next byte is none.
+digits-part : (s : List ℕ) (i : ℕ) → i < length s → i ≤ spaces_of s → (get_or s i 0 ≡ 32 → ⊥) → take (length s - i) (drop i s) ≡ digits_of s
+digits-part s i l h e = part-all s i ∙ sym (digits-at s i l (past s i (omega arith) h) e)
+
+-- What is read, where a digit from '1' on stands there.
+first-part : (s : List ℕ) (i : ℕ) → i < length s → i ≤ spaces_of s → 48 < get_or s i 0 → number_if (figures (take (length s - i) (drop i s))) (take (length s - i) (drop i s)) ≡ field_of s
+first-part s i l h e =
+    rw (part-all s i) (field-first s (drop i s) (omega arith) (digits-at s i l (past s i (omega arith) h) (λ q. omega arith)) (rw (drop-cons s i 0 l) e))
+
+-- What is read from the last column.
+pub last-part : (s : List ℕ) → length s ≡ 8 → 7 ≤ spaces_of s → number_if (figures (take (length s - 7) (drop 7 s))) (take (length s - 7) (drop 7 s)) ≡ field_of s
+last-part s l h =
+    let o : drop 7 s ≡ get_or s 7 0 ∷ [] = drop-cons s 7 0 (omega arith) ∙ ap (λ (t : List ℕ). get_or s 7 0 ∷ t) (drop_of_length-le s {i = 8} (omega arith)) in
+    rw (part-all s 7, o) (field-last s (get_or s 7 0) (omega arith) (sym (digits-after s 7 (past s 7 (omega arith) h)) ∙ ap digits_of o))
+
+-- The same of the columns at which the code looks.
+pub digits-5 : (s : List ℕ) → length s ≡ 8 → 5 ≤ spaces_of s → (get_or s 5 0 ≡ 32 → ⊥) → take (length s - 5) (drop 5 s) ≡ digits_of s
+digits-5 s l h e = digits-part s 5 (omega arith) h e
+
+pub digits-6 : (s : List ℕ) → length s ≡ 8 → 6 ≤ spaces_of s → (get_or s 6 0 ≡ 32 → ⊥) → take (length s - 6) (drop 6 s) ≡ digits_of s
+digits-6 s l h e = digits-part s 6 (omega arith) h e
+
+pub first-5 : (s : List ℕ) → length s ≡ 8 → 5 ≤ spaces_of s → 48 < get_or s 5 0 → number_if (figures (take (length s - 5) (drop 5 s))) (take (length s - 5) (drop 5 s)) ≡ field_of s
+first-5 s l h e = first-part s 5 (omega arith) h e
+
+pub first-6 : (s : List ℕ) → length s ≡ 8 → 6 ≤ spaces_of s → 48 < get_or s 6 0 → number_if (figures (take (length s - 6) (drop 6 s))) (take (length s - 6) (drop 6 s)) ≡ field_of s
+first-6 s l h e = first-part s 6 (omega arith) h e
+
+-- ---- what the search is given
+
+-- for a pass over digits
+pub ruleset passes = (figures-more, figures-none, value_none, drop_of_length-le, to_z_pos)
+
+-- for digits with no sign
+pub ruleset plains = (plain-none, plain-zero, plain-figures)
+
+pub ruleset unsigned = field-unsigned
+
+-- for the spaces of a field, and for its digits
+pub ruleset gaps = (five-spaces, fewer-spaces, word-spaces, space-at)
+
+pub ruleset parts = (part-all, pad-length)
+
+-- for a field that begins with five spaces
+pub ruleset shorts = (six, seven, digits-5, digits-6, first-5, first-6, last-part)

@@ -1,4 +1,5 @@
-// Chart text: a field of 8 columns, and the whole number that it holds.
+// Chart text: a field of 8 columns, and the whole number that it holds. A field is a part of the text, eight bytes long by a clause:
+// as a `[u8; 8]` each would be copied or its length be tested once more.
 #![tactic(auto)]
 
 ghost use Rattle.std.specs.Prelude.{◌≡◌, List, ℕ, ◌-◌, ◌≤◌, ◌<◌, length, get_or, eqb, leb};
@@ -16,6 +17,7 @@ fn spaces(field: &[u8]) -> usize
 }
 
 // The digits of a field, with the minus sign where there is one: the part of the field after its leading spaces.
+#[tactic(auto, using(crate::proofs::Laws::parts), unfolding(crate::specs::Field::digits_of))]
 pub fn digits(field: &[u8]) -> &[u8]
     ensures { result.now ≡ digits_of field.now }
 {
@@ -31,6 +33,8 @@ pub fn figure(b: u8) -> u64
 }
 
 // The number that digits make, in one pass; none at the first byte that is no digit.
+// Here and in `natural` and `held` the bound is asked of a part of a field: a type of a part would be made at each call, and be no plainer.
+#[tactic(auto, using(crate::proofs::Laws::passes))]
 fn number(d: &[u8]) -> Option<i64>
     requires { length d.now ≤ field_width }
     ensures { result ≡ number_if (figures d.now) d.now }
@@ -46,6 +50,7 @@ fn number(d: &[u8]) -> Option<i64>
 }
 
 // The number that digits make with no sign before them: at least one, and no 0 before others.
+#[tactic(auto, using(crate::proofs::Laws::plains))]
 fn natural(d: &[u8]) -> Option<i64>
     requires { length d.now ≤ field_width }
     ensures { result ≡ number_if (plain d.now) d.now }
@@ -74,6 +79,7 @@ pub fn has_minus(d: &[u8]) -> bool
 }
 
 // What a field with these digits holds.
+#[tactic(auto, using(crate::proofs::Laws::unsigned))]
 fn held(d: &[u8]) -> Option<i64>
     requires { length d.now ≤ field_width }
     ensures { (s : List ℕ) → 0 < length s → digits_of s ≡ d.now → result ≡ field_of s }
@@ -86,6 +92,7 @@ fn held(d: &[u8]) -> Option<i64>
 }
 
 // Whether a field begins with five spaces. Four are compared as one word: that is one load.
+#[tactic(auto, using(crate::proofs::Laws::gaps))]
 fn blank(s: &[u8]) -> bool
     requires { length s.now ≡ field_width }
     ensures { result ≡ leb 5 (spaces_of s.now) }
@@ -96,6 +103,7 @@ fn blank(s: &[u8]) -> bool
 
 // The number of a field that begins with five spaces. Where the digits begin is a constant here, so that what reads them is compiled with no loop.
 // A byte after '0' is no space, no sign and no leading zero: one test for the three.
+#[tactic(auto, using(crate::proofs::Laws::shorts))]
 fn short(s: &[u8]) -> Option<i64>
     requires { (length s.now ≡ field_width) × (5 ≤ spaces_of s.now) }
     ensures { result ≡ field_of s.now }
@@ -116,6 +124,7 @@ fn short(s: &[u8]) -> Option<i64>
 }
 
 // The number of a field of 8 columns; none where it is malformed.
+#[tactic(auto, using(crate::proofs::Laws::parts))]
 pub fn read_field(s: &[u8]) -> Option<i64>
     requires { length s.now ≡ field_width }
     ensures { result ≡ field_of s.now }

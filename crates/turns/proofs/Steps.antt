@@ -25,3 +25,5 @@ module _ (c : Chart) (q : Point2) (stop : ℕ) (first : Point2) (n i edge : ℕ)
   pub turn-over : n ≤ i → turn_from c q stop first (n - i) edge last s ≡ f0
   unfolding turn_from
   turn-over h = let e : n - i ≡ 0 = omega arith in rw e
+
+pub ruleset steps = (turn-there, turn_on, turn-over)

@@ -1,4 +1,5 @@
 // A turn about a natural neighbour (01, "Weights"; the inner loop of `get_natural_neighbor_weights`), and the points that it joins.
+// That a number is below its count, each function asks: a type of a number with its chart would be no plainer.
 #![tactic(auto)]
 
 ghost use Rattle.std.specs.Prelude.{◌≡◌, ◌<◌};
@@ -77,6 +78,7 @@ fn face_center(chart: &Chart, q: Point2, f: usize) -> Point2
 
 // The turn about the neighbour where the listed edge `stop` starts, from the half-edge `start`; `before` and `first` are the cell's corners
 // for `start`'s and `stop`'s listed edges. On an accepted chart it is there before the steps run out (`Unbroken`); on any other tables they end it.
+#[tactic(auto, using(crate::proofs::Steps::steps))]
 pub fn turn_about(
     chart: &Chart,
     q: Point2,

@@ -1,5 +1,5 @@
 -- 01, "Gradient and value": the value of a load on a chart, behind the refusals of the query and the location.
-use Rattle.std.specs.Prelude.{◌≡◌, refl, Bool, true, false, cond, List, [], ◌∷◌, map, ℕ, zero, suc, ◌≤◌, ◌<◌, eqb, ℤ, pos, Float, length, get_or, Result, Ok, Err}
+use Rattle.std.specs.Prelude.{◌≡◌, refl, Bool, true, false, cond, List, [], ◌∷◌, map, ℕ, zero, suc, ◌≤◌, ◌<◌, eqb, ℤ, pos, Float, length, take, get_or, Result, Ok, Err}
 use Rattle.std.proofs.Common.{not-suc-le-zero, le_of_suc-le-suc, arith}
 use Rattle.whole.specs.Test.{eq_z}
 use Rattle.geometry.specs.declared.Place.{Place}
@@ -132,3 +132,8 @@ pub listed-owners : (c : Chart) → InRange c → (list : List ℕ) → ((k : �
 listed-owners c r [] b = in-none c
 listed-owners c r (h ∷ list) b =
     in-more c _ (map c.origin list) (r.origins h (b 0 (omega arith))) (listed-owners c r list (λ k l. b (suc k) (omega arith)))
+
+-- ---- laws: what `natural_shares` leaves of a list
+pub shares_whole : (m : ℕ) (c : Chart) (q : Place) (list list' : List ℕ) → list' ≡ list → (xs : List Float) → take (length list') xs ≡ shares_of c q list'
+    → (n : ℕ) (os : List ℕ) → length list' ≡ n → os ≡ map c.origin list' → natural_value m c q list ≡ value (by_method m c q os (take n xs))
+shares_whole m c q list list' same xs e n os l o = rw (← same, o, ← l, e)

@@ -1,7 +1,8 @@
 // The value of a load on checked tables (01, "Gradient and value"): the location and its refusals, the weights, and the value by a method.
+// Chart, load and location go side by side: that they belong together is one clause, which a type of the three would say as well, and no plainer.
 #![tactic(auto)]
 
-ghost use Rattle.std.specs.Prelude.{◌≡◌, Ok};
+ghost use Rattle.std.specs.Prelude.{◌≡◌, [], Ok};
 ghost use Rattle.geometry.specs.Grid.{at};
 ghost use Rattle.refusal.specs.Number.{refusal_of};
 ghost use Rattle.chart.specs.Seen.{seen};
@@ -21,7 +22,8 @@ use accepted::AcceptedChart;
 use chart::Chart;
 use flips::HalfEdges;
 use geometry::{GridPlace, Place};
-use gradient::{Gradients, ValuedChart};
+use gradient::{Gradient, Gradients, ValuedChart};
+use lines::Line;
 use locate::Location;
 use natural::EdgeList;
 pub use prepared::Prepared;
@@ -37,7 +39,7 @@ pub enum Method {
 }
 
 impl Method {
-    // The method of a number, if it has one.
+    // The method of a number, if it has one: an Option and no `TryFrom`, as the one refusal, 12, is said after those of the chart.
     pub fn new(number: i64) -> Option<Method>
         ensures { known result ≡ method_of number }
     {
@@ -123,7 +125,9 @@ pub struct Scratch {
 }
 
 impl Scratch {
-    pub fn new() -> Self {
+    pub fn new() -> Self
+        ensures { result.list.items ≡ [] }
+    {
         Self {
             list: HalfEdges::new(),
             xs: [0.0; 254],
@@ -162,6 +166,7 @@ fn natural_value(
 }
 
 // At a location that was found.
+#[tactic(auto, using(locate::proofs::Laws::located))]
 fn value_at(
     prepared: &Prepared,
     method: Method,
@@ -207,12 +212,13 @@ pub fn value_on(
 {
     let method = method.ok_or(Refusal::Unknown)?;
     let q = GridPlace::new(q.x, q.y).ok_or(Refusal::OffGrid)?;
-    let mut lines = lines::room();
+    // As in `batch::work`: a room that lends both would meet the chart's lifetime in `Prepared`, which the borrow checker does not cover yet (tried).
+    let mut lines = [Line::default(); lines::EDGES];
     lines::draw(&accepted.chart, &mut lines);
-    let mut gradients = gradient::room();
     let valued = ValuedChart {
         chart: accepted.chart,
     };
+    let mut gradients = [Gradient::default(); gradient::VERTICES];
     gradient::estimate_gradients(&valued, &mut gradients);
     let prepared = Prepared {
         accepted: *accepted,

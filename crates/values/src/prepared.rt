@@ -8,7 +8,7 @@ use accepted::AcceptedChart;
 use gradient::{Gradient, Gradients, ValuedChart};
 use lines::{Line, Lines};
 
-// The lines of the chart's edges, and the gradients at its vertices.
+// The lines of the chart's edges, and the gradients at its vertices: slices, since `Lines` and `Gradients` would bring their charts, to be said equal.
 #[derive(Clone, Copy)]
 pub struct Prepared<'a> {
     pub accepted: AcceptedChart<'a>,

@@ -1,4 +1,5 @@
 // Barycentric weights by the kind of location (01, "Weights"; `Barycentric::get_weights`).
+// That a number is below its count, each function asks: a type of a number with its chart would be no plainer.
 #![tactic(auto)]
 
 ghost use Rattle.std.specs.Prelude.{◌≡◌, ◌<◌};

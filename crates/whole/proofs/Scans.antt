@@ -1,6 +1,6 @@
 -- What the iterators' methods find on a range, in the words of First.
-use Rattle.std.specs.Prelude.{cond, ◌≡◌, Bool, true, false, ℕ, ◌≤◌, ◌<◌, List, length, Option, None, Some}
-use Rattle.std.proofs.Common.{sym, ap, ap₂, subst, ◌∙◌, zero-add, zero-le, ⊎_elim, arith}
+use Rattle.std.specs.Prelude.{cond, ◌≡◌, refl, ◌⊎◌, Bool, true, false, ℕ, zero, ◌≤◌, ◌<◌, List, length, get_or, replicate, Option, None, Some}
+use Rattle.std.proofs.Common.{sym, ap, ap₂, subst, ◌∙◌, zero-add, zero-le, inl, inr, ⊎_elim, ltb-true, arith}
 use Rattle.std.proofs.lemmas.Bool.{cases_order, true≢false}
 use Rattle.std.specs.List.{range_with_len}
 use Rattle.std.specs.Bool.{MatchBool, ⊤}
@@ -9,12 +9,14 @@ use Rattle.std.specs.Fn.{Called, CalledAt}
 use Rattle.std.specs.Iterator.{YieldsThen}
 use Rattle.std.specs.List.{FoldsTo, AllWithin, HoldsAt}
 use Rattle.std.proofs.iter.Yields.{nat_range_steps}
+use Rattle.std.proofs.iter.runs.Sources.{range_listed}
+use lib.ListN.{get_or-replicate}
 use Rattle.std.proofs.lemmas.Iterator.{YieldsList-from_range, cases_from_any, first_from_Range}
 use Rattle.std.proofs.lemmas.List.FromFn.{length-range_with_len, get_or-range_with_len}
 use Rattle.std.specs.declared.ops.Range.{Range}
 use denote.Param.Members.{Mut}
 use denote.Ref.{Bor}
-use Rattle.whole.specs.First.{found, first, first-before, first_found, some, some_at, some-none}
+use Rattle.whole.specs.First.{found, first, from, first-before, first_found, some, some_at, some-none, none-at}
 
 bounds : (s : Range ℕ) {n : ℕ} → s.start ≡ 0 → s.end ≡ n → s ≡ record { start = 0; end = n }
 bounds s start end = ap₂ (λ (a b : ℕ). record { start = a; end = b }) start end
@@ -60,3 +62,18 @@ pub found_from_find : {F : Type 0} {g : Mut F (Bor ℕ × Unit {0}) Bool} {s : R
 found_from_find {s = s} p n u f r ran start end computes =
     is_found p n r (subst (λ (q : Range ℕ). MatchOption r ((k : ℕ) → q.start ≤ k → k < q.end → p k ≡ false) (λ i. (q.start ≤ i) × (i < q.end) × (p i ≡ true) × ((k : ℕ) → q.start ≤ k → k < i → p k ≡ false))) (bounds s start end)
     (first_from_Range s u f r (λ x. p x ≡ true) (λ x. p x ≡ false) ran (λ x q c. sym (computes x true q c).1) (λ x q c. ((computes x false q c).0, sym (computes x false q c).1))))
+
+-- What `first p n` is, for the search: a number that passes, or else none does. The search takes what a range gave at a place where a list is read there,
+-- and so one is.
+abbrev Looked : (ℕ → Bool) → ℕ → Type 0
+Looked p n = (from p 0 n ≡ from p 0 n) × (((first p n < n) × (p (first p n) ≡ true) × (get_or (replicate n zero) (first p n) zero ≡ zero)) ⊎ ((some p n ≡ false) × ((k : ℕ) → k < n → p k ≡ false)))
+
+looked_by : (p : ℕ → Bool) (n : ℕ) (t : Bool) → some p n ≡ t → Looked p n
+looked_by p n true e = let l : first p n < n = ltb-true _ _ e in (refl, inl (l, first_found p n l, get_or-replicate n (first p n) zero zero l))
+looked_by p n false e = (refl, inr (e, λ k l. none-at p n e k l))
+
+pub looked : (p : ℕ → Bool) (n : ℕ) → Looked p n
+looked p n = looked_by p n (some p n) refl
+
+-- with it the search finds that `(0..n).any(..)` is `some p n`
+pub ruleset scans = (looked, range_listed)

@@ -8,8 +8,5 @@ ghost use Rattle.whole.specs.Bound.{outside};
 pub fn is_outside(low: i64, high: i64, z: i64) -> bool
     ensures { result ≡ outside low high z }
 {
-    if z < low {
-        return true;
-    }
-    high < z
+    !(low..=high).contains(&z)
 }

@@ -1,20 +1,31 @@
 -- What callers need of the definitions of Writing. Assumes nothing.
-use Rattle.std.specs.Prelude.{Bool, true, false, cond, List, ◌++◌, ◌≡◌, ℕ, zero, suc, ◌≤◌, ◌<◌, ltb, ℤ, pos, length, drop}
+use Rattle.std.specs.Prelude.{Err, true, false, cond, List, ◌++◌, ◌≡◌, ℕ, zero, suc, ◌%◌, ◌≤◌, ◌<◌, ltb, ℤ, pos, length, drop}
 use Rattle.std.proofs.Math.Path.{refl}
-use Rattle.std.proofs.Common.{arith, sym}
-use borrow.Author.Tests.{lt-ltb, ltb-false, le-ltb}
+use Rattle.std.proofs.Common.{arith, sym, ap, ◌∙◌}
+use borrow.Author.Tests.{ne_eqb, lt-ltb, ltb-false, le-ltb, eq-eqb}
 use Rattle.whole.specs.Bools.{never}
+use Rattle.refusal.specs.declared.Refusal.{Refusal}
+use Rattle.refusal.specs.Number.{number, number-positive}
 use Rattle.chart.specs.Tables.{rows}
 use Rattle.ranges.specs.Ranges.{counts_refused}
 use Rattle.ranges.specs.Passed.{Counted, counted}
 use Rattle.checks.specs.Checks.{tables_refusal}
 use Rattle.reading.specs.Text.{chart_text}
-use Rattle.writing.specs.Writing.{uneven, numbers_refusal, room_refusal, write_refusal, saved_by, write_of}
+use Rattle.writing.specs.Writing.{saved_left, uneven, numbers_refusal, room_refusal, write_refusal, saved_by, write_of}
 use Rattle.writing.specs.Writing.Written.{wrote, turned_down}
 use Rattle.writing.specs.Laws.{past, Done}
 
 -- ---- the refusals of the tables, one after the other
 module _ (vs es fs : List ℤ) where
+  -- 2, by the vertices and by the half-edges
+  pub vertices-two : (length vs % 4 ≡ 0 → ⊥) → 2 ≡ numbers_refusal vs es fs
+  unfolding numbers_refusal
+  vertices-two n = rw (ne_eqb (length vs % 4) 0 n) refl
+
+  pub edges-two : length vs % 4 ≡ 0 → (length es % 4 ≡ 0 → ⊥) → 2 ≡ numbers_refusal vs es fs
+  unfolding numbers_refusal
+  edges-two e n = rw (eq-eqb (length vs % 4) 0 e, ne_eqb (length es % 4) 0 n) refl
+
   -- 4
   pub counts-four : uneven vs es ≡ false → counts_refused (pos (rows vs)) (pos (rows es)) (pos (length fs)) ≡ true → 4 ≡ numbers_refusal vs es fs
   unfolding numbers_refusal
@@ -24,14 +35,6 @@ module _ (vs es fs : List ℤ) where
   pub later-refusal : uneven vs es ≡ false → counts_refused (pos (rows vs)) (pos (rows es)) (pos (length fs)) ≡ false → tables_refusal vs es fs ≡ numbers_refusal vs es fs
   unfolding numbers_refusal
   later-refusal e h = rw (e, h) refl
-
--- what the counts' maker says of 4
-pub met-four : (b : Bool) (n : ℕ) → 0 < n → n ≡ cond b 4 0 → (b ≡ true) × (4 ≡ n)
-met-four true n h e = (refl, sym e)
-met-four false n h e = let o : ⊥ = omega arith in absurd o
-
-pub passed-four : (b : Bool) → ◌≡◌ {A = ℕ} 0 (cond b 4 0) → b ≡ false
-passed-four b e = (past b 3 0 (sym e)).0
 
 module _ (vs es fs : List ℤ) (h : numbers_refusal vs es fs ≡ 0) where
   -- 2 does not meet them
@@ -66,6 +69,9 @@ refused-by (suc r) text lent n = refl
 pub written-refused : (vs es fs : List ℤ) (lent : List ℕ) → (numbers_refusal vs es fs ≡ 0 → ⊥) → write_of vs es fs lent ≡ record { answer = turned_down (numbers_refusal vs es fs); buffer = lent }
 unfolding write_of write_refusal
 written-refused vs es fs lent n = refused-by (numbers_refusal vs es fs) (chart_text vs es fs) lent n
+
+pub refused_first : (vs es fs : List ℤ) (lent : List ℕ) (r : Refusal) → number r ≡ numbers_refusal vs es fs → write_of vs es fs lent ≡ saved_left (Err r) lent
+refused_first vs es fs lent r e = let p = number-positive r in written-refused vs es fs lent (λ o. omega (arith, p, e, o)) ∙ ap (λ (n : ℕ). record { answer = turned_down n; buffer = lent }) (sym e)
 
 -- of tables that nothing meets only 18 is left
 pub written-by : (vs es fs : List ℤ) (lent : List ℕ) → numbers_refusal vs es fs ≡ 0 → write_of vs es fs lent ≡ saved_by (room_refusal 0 (chart_text vs es fs) lent) (chart_text vs es fs) lent

@@ -1,14 +1,7 @@
 -- What 6 lets pass is in range, so 7 to 11 can be tested.
 use Rattle.std.proofs.Common.{sym, ◌∙◌}
 use Rattle.ranges.specs.Passed.{in-range}
-use Rattle.checks.specs.Taken.{edges-unsigned, faces-unsigned}
 use Rattle.checks.proofs.tables_refusal.Goals as goal
-
-pub take_over-requires-clause-not_negative : goal.take_over-requires-clause-not_negative
-take_over-requires-clause-not_negative c = edges-unsigned _ _ _ (sym c.out_of_range.ensures ∙ c.if-out_of_range.false) c.requires.whole_rows
-
-pub take_over-requires-2-clause-not_negative : goal.take_over-requires-2-clause-not_negative
-take_over-requires-2-clause-not_negative c = faces-unsigned _ _ _ (sym c.out_of_range.ensures ∙ c.if-out_of_range.false)
 
 pub invariant_of-chart_refusal : goal.invariant_of-chart_refusal
 invariant_of-chart_refusal c =

@@ -4,7 +4,7 @@ use native.Mathlib.Omega.{arith}
 use mathlib.Core.List.{List}
 use Prim.Native.Nat.{◌*◌, ◌-◌}
 use lib.IntN.{ℤ}
-use lib.Seq.{length-take-le, take_all}
+use lib.Seq.{take_all}
 use lib.ListN.{length, take, drop, length-drop}
 use Rattle.std.specs.Prelude.{Result, Ok, Err}
 use Rattle.std.specs.Result.{result_unwrap_or, ResultUnwrapsOrElse}
@@ -25,12 +25,6 @@ unwrapped (Err _) b = refl
 or-default : (r : Result Book Refusal) (z b : Book) → ResultUnwrapsOrElse r (λ x. x ≡ z) b → (returned_of r z).book ≡ b
 or-default (Ok _) z b h = sym h
 or-default (Err _) z b h = sym h
-
-pub slice_bounds-batch-end : goal.slice_bounds-batch-end
-slice_bounds-batch-end c = sym (length-take-le _ _ (omega (arith, c.requires.divisible.inside)))
-
-pub offset_bounds-entries-at : goal.offset_bounds-entries-at
-offset_bounds-entries-at c = omega (arith, c.requires.divisible.inside)
 
 pub returns : goal.returns
 returns c =

@@ -4,4 +4,4 @@ use Rattle.gradient.specs.Estimated.{Estimated}
 use Rattle.gradient.proofs.estimate_gradients.Given as goal
 
 abbrev pub invariant-loop-v : goal.invariant-loop-v
-invariant-loop-v l = Estimated (seen l.valued.chart) l.gradients l.v
+invariant-loop-v l = Estimated (seen l.valued.chart) l.gradient-items l.v

@@ -4,4 +4,4 @@ use Rattle.lines.specs.Lines.{Drawn}
 use Rattle.lines.proofs.draw.Given as goal
 
 abbrev pub invariant-loop-k : goal.invariant-loop-k
-invariant-loop-k l = Drawn (seen l.chart) l.lines l.k
+invariant-loop-k l = Drawn (seen l.chart) l.line-items l.k

@@ -5,13 +5,8 @@ use Rattle.geometry.specs.Grid.{at}
 use Rattle.chart.specs.Seen.{seen}
 use Rattle.lines.specs.Lines.{from_in, to_in}
 use Rattle.locate.specs.Sides.{sides-more, odd-left}
-use Rattle.locate.proofs.Scan.{edge-hit, edge-miss, edge-none}
+use Rattle.locate.proofs.Scan.{edge-miss}
 use Rattle.locate.proofs.find_edge.Goals as goal
-
-pub returns-then-is_on_edge-clause-value : goal.returns-then-is_on_edge-clause-value
-returns-then-is_on_edge-clause-value c =
-    let d = seen c.args.lines.now.chart in
-    edge-hit d (at c.args.q) c.loop-k.k d.half_edges (omega arith) c.loop-k.invariant.found (sym c.is_on_edge.ensures ∙ c.if-is_on_edge.true)
 
 pub loop-k-preserved : goal.loop-k-preserved
 loop-k-preserved c =
@@ -26,8 +21,3 @@ loop-k-preserved c =
           simp (c.side-s.ensures, back (side-in (from_in r _ l) (to_in r _ l) c.args.q.on_grid) tt)
           (sides-more d q c.loop-k.left k c.loop-k.invariant.sides (omega arith) _ _ refl (sym (odd-left d q k)));
     }
-
-pub returns-clause-value : goal.returns-clause-value
-returns-clause-value c =
-    let d = seen c.args.lines.now.chart in
-    edge-none d (at c.args.q) c.loop-k.k d.half_edges (omega (arith, c.args.lines.now.chart.in_range.pairs)) c.loop-k.invariant.found

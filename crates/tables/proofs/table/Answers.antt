@@ -1,16 +1,17 @@
-use Rattle.std.proofs.Common.{◌∙◌, ◌≡◌, ◌+◌, ◌-◌, ◌*◌, ◌≤◌, length, take, add-one, mul-suc, arith, rules, false, true}
+use Rattle.std.proofs.Common.{ap, ◌∙◌, ◌≡◌, ◌+◌, ◌-◌, ◌*◌, ◌≤◌, length, take, add-one, mul-suc, arith, rules}
+use Rattle.std.specs.Option.{is_some}
 use Rattle.tables.specs.Table.{line_bytes}
 use Rattle.tables.proofs.Laws.{table-again, table-fails, table-ends, part_length, part-back, part-line}
 use Rattle.tables.proofs.table.Goals as goal
 
-pub returns-then-not-fields : goal.returns-then-not-fields
-returns-then-not-fields c =
+pub returns-in_err-fields : goal.returns-in_err-fields
+returns-in_err-fields c =
     let a = c.args in
     let l = c.loop-i in
     let r = c.fields in
     let from = a.w * l.i in
-    table-fails a.text.now (take from l.cells) a.w a.n a.at l.i (omega arith) l.invariant
-    (part-line a.text.now l.cells r.new.row (a.at + line_bytes a.w * l.i) from a.w r.result false (search rules) r.ensures c.if-not-fields.true)
+    rw c.from_residual.ensures (table-fails a.text.now (take from l.cells) a.w a.n a.at l.i (omega arith) l.invariant
+    (part-line a.text.now l.cells r.new.row (a.at + line_bytes a.w * l.i) from a.w (is_some r.result) _ (search rules) r.ensures (ap is_some c.in_err-fields.was)))
 
 pub loop-i-preserved : goal.loop-i-preserved
 loop-i-preserved c =
@@ -23,7 +24,7 @@ loop-i-preserved c =
     let wide : length row ≡ a.w = r.auto.row ∙ part_length l.cells from a.w p in
     rw (part-back l.cells row from a.w (a.w * (l.i + 1)) (from + a.w - from) p wide (rw (add-one l.i) (mul-suc a.w l.i)))
     (table-again a.text.now (take from l.cells) a.w a.n a.at l.i (omega arith) l.invariant row
-    (part-line a.text.now l.cells row (a.at + line_bytes a.w * l.i) from a.w r.result true p r.ensures c.if-not-fields.false))
+    (part-line a.text.now l.cells row (a.at + line_bytes a.w * l.i) from a.w (is_some r.result) _ p r.ensures (ap is_some c.in_ok-fields.was)))
 
 pub returns : goal.returns
 returns c =

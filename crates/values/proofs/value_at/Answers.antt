@@ -13,6 +13,3 @@ weighed_value-requires c =
     let chart = c.args.prepared.now.accepted.chart in
     subst (λ (x : Weights). Owners (seen chart) (vertices_in x)) (sym c.in_ok-w.ensures)
     (barycentric-owners (seen chart) (at c.args.q) c.args.place chart.in_range (located _ _ _ c.requires))
-
-pub natural_value-requires : goal.natural_value-requires
-natural_value-requires c = located _ _ _ c.requires
