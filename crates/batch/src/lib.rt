@@ -84,6 +84,7 @@ fn work_entry(prepared: &Prepared, book: &mut CheckedBook, e: Entry, scratch: &m
 }
 
 // Every entry in order; the answers into the first elements of the lent slice. That they have room, this and two callers ask of what C lends.
+// By answers, what the check does not find: the step of the loop over the rows.
 fn work_all(
     prepared: &Prepared,
     book: CheckedBook,

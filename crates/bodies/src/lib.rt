@@ -65,6 +65,7 @@ pub fn gradient_in(text: &[u8], counts: Counts, vertex: usize) -> Result<Gradien
 }
 
 // the edges of a load's natural neighbours,
+// By answers, what the check does not find: that the body has as many half-edges as its head says.
 pub fn edges_in(text: &[u8], counts: Counts, q: Place, out: &mut [u64]) -> Result<Listed, Refusal>
     requires { counts.half_edges ≤ length out.old }
     ensures { edges_left result out.new ≡ edges_in (load_of counts.vertices counts.half_edges counts.faces text.now) q out.old }
@@ -75,6 +76,7 @@ pub fn edges_in(text: &[u8], counts: Counts, q: Place, out: &mut [u64]) -> Resul
 }
 
 // the natural neighbours with their weights,
+// By answers, what the check does not find: that the body has as many half-edges as its head says.
 pub fn shares_in(
     text: &[u8],
     counts: Counts,

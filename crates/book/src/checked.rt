@@ -16,7 +16,8 @@ impl CheckedBook {
     ghost use Rattle.refusal.specs.Number.{refusal_of};
     ghost use Rattle.book.specs.Books.{book_refusal};
 
-    // Any book that a caller can hold, or refusal 1.
+    // Any book that a caller can hold, or refusal 1. `new` and no `TryFrom`, as of `Counts`: it answers with a refusal of the papers.
+    // By answers, what the check does not find: ValidBook from the test and the lengths of the arrays.
     pub fn new(book: Book) -> Result<CheckedBook, Refusal>
         ensures refusal { refusal_of result ≡ book_refusal book }
         ensures kept { IfOk result (λ c. c.book ≡ book) }

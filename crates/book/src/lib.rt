@@ -18,6 +18,7 @@ pub const LIMIT: u64 = 1_000_000_000_000;
 const SECTION_MAX: usize = 16;
 
 // Two arrays side by side, of a fixed size, as C lends and takes back a book's numbers; there is no heap.
+// Columns of a fixed length: there is no heap, and a book is copied.
 #[derive(Clone, Copy)]
 pub struct Book {
     pub sections: u64,
@@ -94,6 +95,7 @@ fn some_count_above(bends: &[u64; SECTION_MAX]) -> bool
 }
 
 // Whether some section at or past the section count is not all zero.
+// By answers, what the check does not find: what a closure of three tests computes.
 fn some_stray(book: &Book) -> bool
     ensures { result ≡ some (stray_at book.now.sections book.now.wear book.now.bends) section_max }
 {

@@ -33,7 +33,7 @@ pub fn read_texts<R: Files + AllocGlobal>(rt: &R, folder: &str) -> io::Result<Te
     })
 }
 
-// A file of the folder. One that is missing or cannot be read counts as empty.
+// A file of the folder, read and not converted. One that is missing or cannot be read counts as empty.
 fn read_text<R: Files + AllocGlobal>(rt: &R, folder: &str, file: &str) -> io::Result<Vec<u8>> {
     let alloc = rt.alloc();
     let path = path(alloc, folder, file)?;

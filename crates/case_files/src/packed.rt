@@ -29,7 +29,7 @@ pub fn read_texts<R: Read>(alloc: Global, input: &mut R) -> Result<Option<Texts>
     }))
 }
 
-// A text of this size: what is past the limit is read and dropped.
+// A text of this size, read and not converted: what is past the limit is read and dropped.
 fn read_text<R: Read>(alloc: Global, input: &mut R, size: usize) -> Result<Vec<u8>, Stop>
     ensures { IfOk result (λ text. min size 65536 ≤ vec_len text) }
 {

@@ -48,6 +48,7 @@ fn bucket_of(p: GridPlace) -> usize
 }
 
 // 8: two vertices at one place. Those at one place have one bucket, so the vertices below v are scanned only where its bucket has one.
+// By answers, what the check does not find: the step of the loop where its branches join.
 pub fn some_share_place(chart: &Chart) -> bool
     ensures { result ≡ some (shares_place (seen chart.now)) (seen chart.now).vertices }
 {
@@ -73,6 +74,7 @@ fn is_past(chart: &Chart, u: Place, k: i64, v: usize) -> bool
 }
 
 // Whether some vertex is strictly left of a to b: of the vector u from a, the side of q is u × q less u × a, so u × a is worked out once.
+// By answers, what the check does not find: a side by one product less.
 fn some_left(chart: &Chart, a: GridPlace, b: GridPlace) -> bool
     ensures { result ≡ some (lies_left (seen chart.now).place (at a) (at b)) (seen chart.now).vertices }
 {
@@ -105,6 +107,7 @@ fn is_overhung(chart: &Chart, h: usize) -> bool
 }
 
 // 9: an inner face whose corners don't turn strictly left.
+// By answers, what the check does not find: a test that ends early, in a scan.
 pub fn some_not_left(chart: &Chart) -> bool
     ensures { result ≡ some (not_left (seen chart.now)) (seen chart.now).faces }
 {

@@ -16,7 +16,7 @@ impl FaceSet {
     pub fn empty() -> Self
         ensures { has result.words ≡ none }
     {
-        FaceSet { words: [0u64; 4] }
+        FaceSet { words: [0u64; 4] } // no heap
     }
 
     // Whether face f is in the set.

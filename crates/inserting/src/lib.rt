@@ -13,6 +13,7 @@ use ranges::Counts;
 use refusal::Refusal;
 
 // A table of unsigned numbers as the file has them, by the index as in `checks::take_over`, where it stands why the two are not one.
+// By answers, what the check does not find: that lists with equal elements are equal.
 fn hand_over(table: &[usize], numbers: &mut [i64])
     requires same_length { length numbers.old ≡ length table.now }
     requires small { Small table.now }
@@ -42,6 +43,7 @@ fn put_text(chart: &Chart, text: &mut [u8]) -> Result<u64, Refusal>
 }
 
 // Into the body of a chart whose head has these counts.
+// By answers, what the check does not find: the tables' facts, and which text the relation speaks of.
 #[tactic(auto, using(crate::specs::Laws::arms))]
 pub fn insert_in(
     chart: &[u8],

@@ -39,6 +39,7 @@ fn join(tables: &mut Tables, site: Site, q: Place, value: i64)
 }
 
 // A new vertex at q into the tables; 26 where it has no site.
+// By answers, what the check does not find: what the site and the flips leave of the chart in front of the tables.
 pub fn insert_vertex(tables: &mut Tables, q: GridPlace, value: i64) -> Result<(), Refusal>
     requires room { Roomy tables.old }
     requires accepted { Accepted (shown tables.old) }

@@ -24,6 +24,7 @@ pub struct Blend {
 }
 
 // The weighted sum of the vertices' values.
+// By answers, what the check does not find: that the walk over two lists is at its end.
 #[tactic(auto, unfolding(crate::specs::Values::sum_from))]
 pub fn value_sum(valued: &ValuedChart, owners: &[usize], weights: &[f64]) -> f64
     requires { Owners (seen valued.now.chart) owners.now }
@@ -82,6 +83,7 @@ impl Blend {
 }
 
 // The vertices' values and gradients, blended.
+// By answers, what the check does not find: that the walk over two lists is at its end.
 #[tactic(auto, using(crate::proofs::Laws::steps))]
 pub fn value_blend(gradients: &Gradients, q: GridPlace, owners: &[usize], weights: &[f64]) -> f64
     requires { Owners (seen gradients.now.valued.chart) owners.now }

@@ -34,6 +34,7 @@ fn wants_flip(chart: &Chart, n: usize, h: usize) -> bool
 }
 
 // The first half-edge whose edge is to be flipped.
+// By answers, what the check does not find: that the closure of `find` computes the definition's test.
 fn find_flip(chart: &Chart, n: usize) -> Option<usize>
     requires { n < (seen chart.now).vertices }
     ensures { result ≡ found (wants_flip (seen chart.now) n) (seen chart.now).half_edges }
@@ -42,6 +43,7 @@ fn find_flip(chart: &Chart, n: usize) -> Option<usize>
 }
 
 // Flips edges about vertex n, the last one, until none is to be flipped. Each flip changes the tables searched, so no iterator over them can go on.
+// By answers, what the check does not find: what a flip keeps, and the measure.
 pub fn legalize(tables: &mut Tables, n: usize)
     requires in_range { InRange (shown tables.old) }
     requires growing { Growing (shown tables.old) n }

@@ -22,6 +22,7 @@ impl Lines<'_> {
     ghost use Rattle.chart.specs.Chart.{from_of, to_of};
 
     // The side of q at half-edge 2k: the vector's cross product with q, less the offset.
+    // By answers, what the check does not find: that the difference fits, and is the side.
     pub fn side(&self, q: GridPlace, k: usize) -> i64
         requires { k < (seen self.now.chart).half_edges / 2 }
         ensures { result ≡ side (from_of (seen self.now.chart) (2 * k)) (to_of (seen self.now.chart) (2 * k)) (at q) }

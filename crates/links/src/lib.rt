@@ -146,6 +146,7 @@ fn no_vertex() -> [bool; 128]
 // Whether two outer half-edges leave one vertex: the set of the vertices that one has left is kept beside the scan.
 // The bound is that of the set's room. A `Chart` may have more vertices; a type of one that has not would serve this, `links_broken` and
 // `checks::chart_refusal` alone (no plainer).
+// By answers, what the check does not find: the step of the loop where its branches join.
 fn some_leaves_again(chart: &Chart) -> bool
     requires { (seen chart.now).vertices ≤ most_vertices }
     ensures { result ≡ some (leaves_again (seen chart.now)) (seen chart.now).half_edges }

@@ -38,6 +38,7 @@ fn is_at_vertex(chart: &Chart, q: GridPlace, v: usize) -> bool
 }
 
 // The lowest vertex at q.
+// By answers, what the check does not find: that the closure of `find` computes the definition's test.
 fn find_vertex(chart: &Chart, q: GridPlace) -> Option<usize>
     ensures { result ≡ found (at_vertex (seen chart.now) (at q)) (seen chart.now).vertices }
 {
@@ -56,6 +57,7 @@ fn is_on_edge(chart: &Chart, q: GridPlace, h: usize, s: i64) -> bool
 
 // The lowest even half-edge with q on its open segment. Where there is none, `left` says of each half-edge whether q is strictly left of it.
 // A `for` that writes by index, not `find` or `chunks_exact_mut`: it fills `left` on its way, and a proof knows nothing of what an iterator lent.
+// By answers, what the check does not find: the two sides that a turn of the loop writes.
 #[tactic(auto, using(crate::proofs::Scan::edges))]
 fn find_edge(lines: &Lines, q: GridPlace, left: &mut [bool]) -> Option<usize>
     requires { (seen lines.now.chart).half_edges ≤ length left.old }

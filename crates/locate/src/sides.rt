@@ -49,6 +49,7 @@ impl Sides<'_> {
     }
 
     // The lowest inner face with q strictly left of its three half-edges.
+    // By answers, what the check does not find: that the closure of `find` computes the definition's test.
     pub fn find_face(&self) -> Option<usize>
         ensures { result ≡ found (in_face (seen self.now.chart) (at self.now.q)) (seen self.now.chart).faces }
     {
@@ -64,6 +65,7 @@ impl Sides<'_> {
     }
 
     // The lowest outer half-edge with q strictly left, or the count of half-edges: `Location` holds it, so an Option would be undone at the one call.
+    // By answers, what the check does not find: that the closure of `find` computes the definition's test.
     pub fn find_outer(&self) -> usize
         ensures { result ≡ first (left_of_outer (seen self.now.chart) (at self.now.q)) (seen self.now.chart).half_edges }
     {

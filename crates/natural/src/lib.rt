@@ -43,6 +43,7 @@ fn divide_all(areas: &mut [f64], total: f64)
 
 // A turn about each neighbour, from the cell's corners in xs and ys. Corner i is last read at turn i, so area i takes the place of its x:
 // two arrays of numbers, since one of points would leave the areas with gaps.
+// By answers, what the check does not find: the corner read back, and one area more.
 fn turn_all(list: &EdgeList, q: Point2, xs: &mut [f64], ys: &[f64])
     requires some { 0 < length list.now.edges.now }
     requires xs_length { length xs.old ≡ length list.now.edges.now }

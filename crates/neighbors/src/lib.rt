@@ -19,6 +19,7 @@ use geometry::GridPlace;
 use locate::Location;
 
 // In face f: its three half-edges are searched from, and it is opened.
+// By answers, what the check does not find: what the stack holds after several pushes.
 pub fn face_neighbors(chart: &Chart, q: GridPlace, f: usize, out: &mut HalfEdges) -> usize
     requires below { f < (seen chart.now).faces }
     requires few { (seen chart.now).faces ≤ most_faces }
@@ -37,6 +38,7 @@ pub fn face_neighbors(chart: &Chart, q: GridPlace, f: usize, out: &mut HalfEdges
 }
 
 // On the inner edge of half-edge h: it and its partner are searched from.
+// By answers, what the check does not find: what the stack holds after several pushes.
 pub fn inner_edge_neighbors(chart: &Chart, q: GridPlace, h: usize, out: &mut HalfEdges) -> usize
     requires below { h < (seen chart.now).half_edges }
     requires few { (seen chart.now).faces ≤ most_faces }

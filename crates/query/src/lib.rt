@@ -70,6 +70,7 @@ fn copy_list(list: &[usize], out: &mut [u64])
 }
 
 // At a location that was found: the edges found, then copied out.
+// By answers, what the check does not find: how long the list is that was found, or that the load on the grid is the load.
 fn edges_at(accepted: &AcceptedChart, q: GridPlace, place: Location, out: &mut [u64]) -> Listed
     requires holds { Holds (seen accepted.now.chart) (at q) place }
     requires room { (seen accepted.now.chart).half_edges ≤ length out.old }
@@ -85,6 +86,7 @@ fn edges_at(accepted: &AcceptedChart, q: GridPlace, place: Location, out: &mut [
 }
 
 // On checked tables: 13, 14, then the edges.
+// By answers, what the check does not find: how long the list is that was found, or that the load on the grid is the load.
 #[tactic(auto, unfolding(crate::specs::Natural::edges_on), using(locate::proofs::Laws::located))]
 pub fn edges_on(accepted: &AcceptedChart, q: Place, out: &mut [u64]) -> Result<Listed, Refusal>
     requires { (seen accepted.now.chart).half_edges ≤ length out.old }
@@ -123,6 +125,7 @@ fn shares_at(
 }
 
 // On checked tables: 13, 14, then the weights.
+// By answers, what the check does not find: how long the list is that was found, or that the load on the grid is the load.
 #[tactic(auto, unfolding(crate::specs::Natural::shares_on), using(locate::proofs::Laws::located))]
 pub fn shares_on(
     accepted: &AcceptedChart,

@@ -87,6 +87,7 @@ pub fn read_body(
     fill(text, last, 1, f, fs)
 }
 
+// The tables come as three lent rooms: they are no `Chart` before `checks` has let them pass, and stand in front of what is lent (no heap).
 // The body of a chart whose head has these counts, read and checked; or the refusal 3, 5 or 6 to 11. Its tables stand in
 // the first elements of the lent slices.
 #[tactic(auto, using(crate::proofs::Laws::loads))]

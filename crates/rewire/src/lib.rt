@@ -222,6 +222,7 @@ impl Tables<'_> {
     }
 
     // Turns the edge of half-edge e about: it then joins the two corners across.
+    // By answers, what the check does not find: that the front of the slices shows the chart with what was written.
     pub fn flip_cw(&mut self, e: usize)
         requires in_range { InRange (shown self.old) }
         requires e_below { e < (shown self.old).half_edges }
@@ -239,6 +240,7 @@ impl Tables<'_> {
     }
 
     // Divides the face of half-edge e in three about a new vertex at q.
+    // By answers, what the check does not find: that the front of the slices shows the chart with what was written.
     pub fn insert_into_triangle(&mut self, e: usize, q: Place, value: i64)
         requires room { Roomy self.old }
         requires wired { Wired (shown self.old) }
@@ -257,6 +259,7 @@ impl Tables<'_> {
     }
 
     // Divides the two faces at half-edge e in four about a new vertex at q on it.
+    // By answers, what the check does not find: that the front of the slices shows the chart with what was written.
     pub fn split_edge(&mut self, e: usize, q: Place, value: i64)
         requires room { Roomy self.old }
         requires wired { Wired (shown self.old) }

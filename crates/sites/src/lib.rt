@@ -40,6 +40,7 @@ pub enum Site {
 }
 
 // The site of a new vertex at q; 26 where there is none.
+// By answers, what the check does not find: a number in range under an arm of the location.
 #[tactic(auto, unfolding(crate::specs::Site::site_at, crate::specs::Site::site_of))]
 pub fn site_at(chart: &Chart, q: GridPlace) -> Result<Site, Refusal>
     requires { Accepted (seen chart.now) }

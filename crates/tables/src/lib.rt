@@ -28,6 +28,7 @@ fn start(starts: &[usize; 5], j: usize) -> usize
 }
 
 // One line from `at`: a field for each element of `row`, then the line end. None where it is malformed; else `row` has its numbers.
+// By answers, what the check does not find: a field or a line more, of texts by `drop` and tables by `take`.
 fn fields(starts: &[usize; 5], text: &[u8], at: usize, row: &mut [i64]) -> Option<()>
     requires starts { Starts starts.now }
     requires row_len_bound { (length row.old ≤ fields_max) × (at + field_width * length row.old < length text.now) }
@@ -42,6 +43,7 @@ fn fields(starts: &[usize; 5], text: &[u8], at: usize, row: &mut [i64]) -> Optio
 
 // `n` lines of `w` fields from `at`. None where they are malformed; else `cells` has their numbers, line after line.
 // The numbers go into a slice that the caller lends: a library has no heap. By number: `chunks_exact` would owe that w is not 0.
+// By answers, what the check does not find: a field or a line more, of texts by `drop` and tables by `take`.
 pub fn table(text: &[u8], at: usize, w: usize, n: usize, cells: &mut [i64]) -> Option<()>
     requires w_bound { (w ≤ fields_max) × (n ≤ lines_max) }
     requires n_in_bounds { (at + line_bytes w * n ≤ length text.now) × (length cells.old ≡ w * n) }

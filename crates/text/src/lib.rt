@@ -34,6 +34,7 @@ pub fn figure(b: u8) -> u64
 
 // The number that digits make, in one pass; none at the first byte that is no digit.
 // Here and in `natural` and `held` the bound is asked of a part of a field: a type of a part would be made at each call, and be no plainer.
+// By answers, what the check does not find: a digit more, of a field by `take` and `drop`.
 #[tactic(auto, using(crate::proofs::Laws::passes))]
 fn number(d: &[u8]) -> Option<i64>
     requires { length d.now ≤ field_width }
@@ -79,6 +80,7 @@ pub fn has_minus(d: &[u8]) -> bool
 }
 
 // What a field with these digits holds.
+// By answers, what the check does not find: a digit more, of a field by `take` and `drop`.
 #[tactic(auto, using(crate::proofs::Laws::unsigned))]
 fn held(d: &[u8]) -> Option<i64>
     requires { length d.now ≤ field_width }

@@ -53,6 +53,7 @@ impl Method {
 }
 
 // On checked tables: the weights at a location that was found there.
+// By answers, what the check does not find: a fact under an arm of the location, and the list that is handed on.
 pub fn weights_at(
     chart: &Chart,
     q: GridPlace,
@@ -116,7 +117,7 @@ fn value_by(
     }
 }
 
-// What methods 2 and 3 write on the way: the list of edges, and two numbers for each. A batch makes it once.
+// No heap: what methods 2 and 3 write on the way, in arrays for the longest list: the list of edges, and two numbers for each. A batch makes it once.
 #[derive(Drop)]
 pub struct Scratch {
     pub list: HalfEdges,
@@ -137,6 +138,7 @@ impl Scratch {
 }
 
 // Methods 2 and 3 at a location that was found.
+// By answers, what the check does not find: a fact under an arm of the location, and the list that is handed on.
 fn natural_value(
     prepared: &Prepared,
     method: Method,
@@ -166,6 +168,7 @@ fn natural_value(
 }
 
 // At a location that was found.
+// By answers, what the check does not find: a fact under an arm of the location, and the list that is handed on.
 #[tactic(auto, using(locate::proofs::Laws::located))]
 fn value_at(
     prepared: &Prepared,
