@@ -2,7 +2,7 @@
 // A place and its value go side by side, as a load's place and method do: 13 looks at both, and a type of the two would be no plainer.
 #![tactic(auto)]
 
-ghost use Rattle.std.specs.Prelude.{◌≡◌, ◌*◌, ◌≤◌, cond, IfOk, length};
+ghost use Rattle.std.specs.Prelude.{◌≡◌, ◌*◌, ◌≤◌, cond, IfOk, OnErr, length};
 ghost use Rattle.geometry.specs.Grid.{at};
 ghost use Rattle.chart.specs.Limits.{most_vertices, most_half_edges, most_faces};
 ghost use Rattle.refusal.specs.Number.{refusal_of};
@@ -49,6 +49,7 @@ pub fn insert_vertex(tables: &mut Tables, q: GridPlace, value: i64) -> Result<()
     ensures outs { KeepsOuts tables.old.vertices.now tables.new.vertices.now }
     ensures new_out { IfOk result (λ u. Natural (out_cell tables.new.vertices.now tables.old.vertex_count)) }
     ensures lent { SameLent tables.old tables.new }
+    ensures refused { OnErr result (tables.new ≡ tables.old) }
 {
     let n = tables.vertex_count;
     let site = sites::site_at(&tables.chart(), q)?;
@@ -71,6 +72,7 @@ pub fn extend<'a>(
     requires room { (4 * most_vertices ≤ length vertices.old) × (4 * most_half_edges ≤ length edges.old) × (most_faces ≤ length faces.old) }
     ensures extends { Extends (load_of counts.vertices counts.half_edges counts.faces text.now) q value result }
     ensures lent { IfOk result (λ t. (t.vertices.ghost_name ≡ vertices.entry.ghost_name) × (t.edges.ghost_name ≡ edges.entry.ghost_name) × (t.faces.ghost_name ≡ faces.entry.ghost_name)) }
+    ensures long { IfOk result (λ t. (length t.vertices.now ≡ length vertices.old) × (length t.edges.now ≡ length edges.old) × (length t.faces.now ≡ length faces.old)) }
 {
     reading::load(text, counts, vertices, edges, faces)?;
     let place = sites::ask(q, value, counts.vertices)?;

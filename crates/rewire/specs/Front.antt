@@ -18,6 +18,11 @@ pub record Long (vs : List ℤ) (es fs : List ℕ) (n h f : ℕ) : Type 0 where
 abbrev pub Roomy : Tables → Type 0
 Roomy t = Long t.vertices.now t.edges.now t.faces.now t.vertex_count t.half_edge_count t.face_count
 
--- the slices are the same ones: what is written is the lender's
-abbrev pub SameLent : Tables → Tables → Type 0
-SameLent t u = (t.vertices.ghost_name ≡ u.vertices.ghost_name) × ((t.edges.ghost_name ≡ u.edges.ghost_name) × (t.faces.ghost_name ≡ u.faces.ghost_name))
+-- the slices are the same ones, as long as before: what is written is the lender's
+pub record SameLent (t u : Tables) : Type 0 where
+  pub vertices : t.vertices.ghost_name ≡ u.vertices.ghost_name
+  pub edges : t.edges.ghost_name ≡ u.edges.ghost_name
+  pub faces : t.faces.ghost_name ≡ u.faces.ghost_name
+  pub vertices_long : length t.vertices.now ≡ length u.vertices.now
+  pub edges_long : length t.edges.now ≡ length u.edges.now
+  pub faces_long : length t.faces.now ≡ length u.faces.now
