@@ -21,10 +21,11 @@ fn wants_flip(chart: &Chart, n: usize, h: usize) -> bool
     requires h_below { h < (seen chart.now).half_edges }
     ensures { result ≡ wants_flip (seen chart.now) n h }
 {
+    if chart.face(h) == 0 || chart.origin(chart.prev(h)) != n {
+        return false;
+    }
     let t = chart.partner(h);
-    chart.face(h) != 0
-        && chart.origin(chart.prev(h)) == n
-        && chart.face(t) != 0
+    chart.face(t) != 0
         && geometry::contained_in_circumference(
             chart.to(h),
             chart.from(h),
@@ -35,6 +36,8 @@ fn wants_flip(chart: &Chart, n: usize, h: usize) -> bool
 
 // The first half-edge whose edge is to be flipped.
 // By answers, what the check does not find: that the closure of `find` computes the definition's test.
+// Most of the work of a new vertex with many flips: on its own the loop has its registers for itself.
+#[inline(never)]
 fn find_flip(chart: &Chart, n: usize) -> Option<usize>
     requires { n < (seen chart.now).vertices }
     ensures { result ≡ found (wants_flip (seen chart.now) n) (seen chart.now).half_edges }
