@@ -1,7 +1,7 @@
 // The refusals 6 to 11 of three tables, and their half-edges and faces taken over as unsigned numbers once 6 has let them pass.
 #![tactic(auto)]
 
-ghost use Rattle.std.specs.Prelude.{◌≡◌, ◌*◌, ◌≤◌, ◌%◌, length};
+ghost use Rattle.std.specs.Prelude.{◌≡◌, Err, ◌*◌, ◌≤◌, ◌%◌, length};
 ghost use Rattle.refusal.specs.Number.{refusal_of};
 ghost use Rattle.chart.specs.Limits.{most_vertices};
 ghost use Rattle.chart.specs.Tables.{rows, unsigned_all};
@@ -25,6 +25,15 @@ fn take_over(signed: &[i64], table: &mut [usize])
     }
 }
 
+// A refusal that is met. A call, and not compiled into the scans: else each of their turns sets both halves of the Result that the scan may end with.
+#[cold]
+#[inline(never)]
+fn met(refusal: Refusal) -> Result<(), Refusal>
+    ensures { result ≡ Err refusal }
+{
+    Err(refusal)
+}
+
 // 7 to 11, of a chart whose numbers are in range. A bound on what is lent, and no part of the type: a `Chart` is of any size.
 #[tactic(auto, using(crate::proofs::Circles::told_by_edges), unfolding(crate::specs::Checks::chart_refusal))]
 fn chart_refusal(chart: &Chart) -> Result<(), Refusal>
@@ -32,20 +41,20 @@ fn chart_refusal(chart: &Chart) -> Result<(), Refusal>
     ensures { refusal_of result ≡ chart_refusal (seen chart.now) }
 {
     if links::links_broken(chart) {
-        return Err(Refusal::Links);
+        return met(Refusal::Links);
     }
     if delaunay::some_share_place(chart) {
-        return Err(Refusal::Places);
+        return met(Refusal::Places);
     }
     if delaunay::some_not_left(chart) {
-        return Err(Refusal::Turn);
+        return met(Refusal::Turn);
     }
     if delaunay::some_overhung(chart) {
-        return Err(Refusal::Rim);
+        return met(Refusal::Rim);
     }
     // 11 of what is left: across one edge (crate nearby, `crowded-pressed`)
     if across::some_pressed(chart) {
-        return Err(Refusal::Circle);
+        return met(Refusal::Circle);
     }
     Ok(())
 }
@@ -68,7 +77,7 @@ pub fn tables_refusal(
     ensures { told (tables_refusal vertices.now edgecells.now facecells.now) vertices.now (unsigned_all edgecells.now) (unsigned_all facecells.now) ≡ told (refusal_of result) vertices.now edges.new faces.new }
 {
     if ranges::out_of_range(vertices, edgecells, facecells) {
-        return Err(Refusal::Range);
+        return met(Refusal::Range);
     }
     take_over(edgecells, edges);
     take_over(facecells, faces);

@@ -26,11 +26,11 @@ unfolding last_digit
 last-by k w e g n = rw e refl
 
 -- The last column of a field.
-last-column : (w g n : ℕ) → 0 < w → last_digit w g n ≡ columns (w - 1) g (n / 10) ++ ((48 + n % 10) ∷ [])
+pub last-column : (w g n : ℕ) → 0 < w → last_digit w g n ≡ columns (w - 1) g (n / 10) ++ ((48 + n % 10) ∷ [])
 last-column w g n h = last-by (w - 1) w (omega arith) g n
 
 -- A column that is written: what stands from it on.
-column-put : (s : List ℕ) (k b : ℕ) → 0 < k → k ≤ length s → drop (k - 1) (set s (k - 1) b) ≡ b ∷ drop k s
+pub column-put : (s : List ℕ) (k b : ℕ) → 0 < k → k ≤ length s → drop (k - 1) (set s (k - 1) b) ≡ b ∷ drop k s
 column-put s k b h l =
     let k' : suc (k - 1) ≡ k = omega arith in
     let i : k - 1 < length (set s (k - 1) b) = simp length-set (omega arith) in
@@ -53,10 +53,14 @@ next-put s k g n h l =
     ∙ ap (λ (t : List ℕ). columns (k - 1) (sign_left g n) (n / 10) ++ t) (sym (column-put s k (column_byte g n) h l))
 
 -- A number's text by its sign and its magnitude.
-pub text_signed : (w : ℕ) (z : ℤ) → last_digit w (sign_of z) (nat_abs z) ≡ field_text w z
+pub text-signed : (w : ℕ) (z : ℤ) → last_digit w (sign_of z) (nat_abs z) ≡ field_text w z
 unfolding field_text
-text_signed w (pos n) = refl
-text_signed w (negsuc n) = refl
+text-signed w (pos n) = refl
+text-signed w (negsuc n) = refl
+
+-- The same, under a name that `using` can say.
+pub text_signed : (w : ℕ) (z : ℤ) → last_digit w (sign_of z) (nat_abs z) ≡ field_text w z
+text_signed w z = text-signed w z
 
 -- what the search is given
 pub ruleset puts = (columns-none, last-put, next-put, length-set)

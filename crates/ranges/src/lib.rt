@@ -15,15 +15,26 @@ pub use counts::Counts;
 // The largest value of a vertex.
 pub const VALUE_MAX: i64 = 1000000;
 
-// Whether 4 lets counts pass: vertices 3 to 128; half-edges even and 6 to 756; faces 2 to 252.
+// 4: vertices not 3 to 128; half-edges odd or not 6 to 756; faces not 2 to 252.
+#[tactic(auto, unfolding(crate::specs::Ranges::counts_refused))]
+pub fn counts_refused(vertices: i64, edges: i64, faces: i64) -> bool
+    ensures { result ≡ counts_refused vertices edges faces }
+{
+    whole::is_outside(3, 128, vertices)
+        || edges.unsigned_abs() % 2 != 0
+        || whole::is_outside(6, 756, edges)
+        || whole::is_outside(2, 252, faces)
+}
+
+// Whether 4 lets counts pass. One past its most is told first, so that the others are numbers of 64 bits with a sign.
 #[tactic(auto, unfolding(crate::specs::Ranges::counts_refused))]
 fn passes(vertices: usize, half_edges: usize, faces: usize) -> bool
     ensures { result ≡ not (counts_refused (pos vertices) (pos half_edges) (pos faces)) }
 {
-    (3..=128).contains(&vertices)
-        && half_edges % 2 == 0
-        && (6..=756).contains(&half_edges)
-        && (2..=252).contains(&faces)
+    vertices <= 128
+        && half_edges <= 756
+        && faces <= 252
+        && !counts_refused(vertices as i64, half_edges as i64, faces as i64)
 }
 
 // Whether a number is negative or not below the count n.
@@ -46,7 +57,7 @@ fn value_outside(vertices: &[i64], v: usize) -> bool
     requires { v < rows vertices.now }
     ensures { result ≡ outside (pos 0) (pos value_max) (value_of vertices.now v) }
 {
-    !(0..=VALUE_MAX).contains(&vertices[v * 4 + 2])
+    whole::is_outside(0, VALUE_MAX, vertices[v * 4 + 2])
 }
 
 // Whether a number of vertex v is out of range; edges is the count of half-edges.

@@ -26,7 +26,7 @@ line-next row j old mid at end h room e p =
     ∙ ap (λ (t : List ℕ). laid old at t) (line-by z (drop (j + 1) row) (drop j row) (drop-cons row j (pos 0) h ∙ ap (λ (k : ℕ). z ∷ drop k row) (sym (add-one j))))
 
 -- no field is left
-line-ends : (row : List ℤ) (j : ℕ) → j ≡ length row → 10 ∷ [] ≡ line_text (drop j row)
+pub line-ends : (row : List ℤ) (j : ℕ) → j ≡ length row → 10 ∷ [] ≡ line_text (drop j row)
 unfolding line_text
 line-ends row j e = rw (e, drop-length row) refl
 

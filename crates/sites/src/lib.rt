@@ -23,7 +23,7 @@ pub fn ask(q: Place, value: i64, v: usize) -> Result<GridPlace, Refusal>
     let Some(place) = GridPlace::new(q.x, q.y) else {
         return Err(Refusal::OffGrid);
     };
-    if !(0..=VALUE_MAX).contains(&value) {
+    if whole::is_outside(0, VALUE_MAX, value) {
         return Err(Refusal::OffGrid);
     }
     if v == 128 {

@@ -51,12 +51,13 @@ fn number(d: &[u8]) -> Option<i64>
 }
 
 // The number that digits make with no sign before them: at least one, and no 0 before others.
+// The 0 is tested first: by the length first, each length is kept as a test of its own, and the loop of the fields runs out of registers.
 #[tactic(auto, using(crate::proofs::Laws::plains))]
 fn natural(d: &[u8]) -> Option<i64>
     requires { length d.now ≤ field_width }
     ensures { result ≡ number_if (plain d.now) d.now }
 {
-    if d.is_empty() || 1 < d.len() && d[0] == b'0' {
+    if d.is_empty() || d[0] == b'0' && 1 < d.len() {
         return None;
     }
     number(d)
