@@ -114,24 +114,29 @@ pub fn to_origins(edges: &[usize], list: &mut [usize])
     }
 }
 
-// The listed edges' starts into the first elements of the caller's slice, by another reading than `query::copy_list`'s.
-#[tactic(auto, using(crate::proofs::Steps::put_number))]
-fn copy_origins(list: &EdgeList, owners: &mut [u64])
-    requires { length list.now.edges.now ≤ length owners.old }
-    ensures { owners.new ≡ map (seen list.now.chart).origin list.now.edges.now ++ drop (length list.now.edges.now) owners.old }
+// The listed edges' starts and their shares into the first elements of the caller's slices: each element is written once.
+#[tactic(auto, using(crate::proofs::Steps::put_number, crate::proofs::Steps::put_share))]
+fn copy_out(list: &EdgeList, shares: &[f64], owners: &mut [u64], weights: &mut [f64])
+    requires shares_length { length shares.now ≡ length list.now.edges.now }
+    requires owners_room { length list.now.edges.now ≤ length owners.old }
+    requires weights_room { length list.now.edges.now ≤ length weights.old }
+    ensures owners { owners.new ≡ map (seen list.now.chart).origin list.now.edges.now ++ drop (length list.now.edges.now) owners.old }
+    ensures weights { weights.new ≡ shares.now ++ drop (length list.now.edges.now) weights.old }
 {
     for (i, h) in list.edges.iter().enumerate() {
         owners[i] = list.chart.origin(*h) as u64;
+        weights[i] = shares[i];
     }
 }
 
-// The listed edges' starts with their weights. The heights' room is of a fixed size, since there is no heap.
+// The listed edges' starts with their weights, worked out in arrays of the call's own, of a fixed size, since there is no heap; they are copied out at the end.
 #[tactic(auto, using(crate::proofs::Steps::settles))]
 pub fn natural_weights(list: &EdgeList, q: GridPlace, owners: &mut [u64], weights: &mut [f64])
     requires owners_room { length list.now.edges.now ≤ length owners.old }
     requires weights_room { length list.now.edges.now ≤ length weights.old }
     ensures { outcome owners.new weights.new ≡ natural_weights_of (seen list.now.chart) (at q) list.now.edges.now owners.old weights.old }
 {
-    natural_shares(list, q, weights, &mut [0.0; 756]);
-    copy_origins(list, owners);
+    let mut shares = [0.0; 756];
+    natural_shares(list, q, &mut shares, &mut [0.0; 756]);
+    copy_out(list, &shares[..list.edges.len()], owners, weights);
 }

@@ -1,7 +1,0 @@
--- The loop's invariant: the first starts are written, the others not yet. Assumes nothing.
-use Rattle.std.proofs.Common.{◌≡◌, ◌++◌, map, take, drop}
-use Rattle.chart.specs.Seen.{seen}
-use Rattle.natural.proofs.copy_origins.Given as goal
-
-abbrev pub invariant-loop-i : goal.invariant-loop-i
-invariant-loop-i l = l.owners ≡ map (seen l.list.chart).origin (take l.i l.list.edges.now) ++ drop l.i l.initial.owners
