@@ -17,8 +17,9 @@ use chart::Chart;
 use faceset::FaceSet;
 use geometry::GridPlace;
 
-// Half-edges that wait, or that are listed: both together are never more than the faces, and two. Of a fixed size: there is no heap.
-pub type HalfEdges = ArrayVec<usize, 254>;
+// Half-edges that wait, or that are listed, with a place for each half-edge of the largest chart: both together are never more than the faces, and two. Of a
+// fixed size: there is no heap.
+pub type HalfEdges = ArrayVec<usize, 756>;
 
 // Whether q is strictly inside the circle of half-edge h's face.
 #[tactic(auto, unfolding(crate::specs::Search::in_circle))]

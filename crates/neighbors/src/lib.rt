@@ -20,35 +20,47 @@ use locate::Location;
 
 // In face f: its three half-edges are searched from, and it is opened.
 // By answers, what the check does not find: what the stack holds after several pushes.
-pub fn face_neighbors(chart: &Chart, q: GridPlace, f: usize, out: &mut HalfEdges) -> usize
+pub fn face_neighbors(
+    chart: &Chart,
+    q: GridPlace,
+    f: usize,
+    waiting: &mut HalfEdges,
+    out: &mut HalfEdges,
+) -> usize
     requires below { f < (seen chart.now).faces }
     requires few { (seen chart.now).faces ≤ most_faces }
     ensures { listed out.new.items result ≡ face_neighbors (seen chart.now) (at q) f }
 {
     out.clear();
     let h = chart.adjacent(f);
-    let mut waiting = HalfEdges::new();
+    waiting.clear();
     waiting.push(flips::behind_prev(chart, h));
     waiting.push(chart.partner(h));
     waiting.push(flips::behind_next(chart, h));
     let opened = FaceSet::empty().insert(f);
-    let found = flips::inspect_flips(chart, q, opened, &mut waiting, out);
+    let found = flips::inspect_flips(chart, q, opened, waiting, out);
     out.reverse();
     found.count()
 }
 
 // On the inner edge of half-edge h: it and its partner are searched from.
 // By answers, what the check does not find: what the stack holds after several pushes.
-pub fn inner_edge_neighbors(chart: &Chart, q: GridPlace, h: usize, out: &mut HalfEdges) -> usize
+pub fn inner_edge_neighbors(
+    chart: &Chart,
+    q: GridPlace,
+    h: usize,
+    waiting: &mut HalfEdges,
+    out: &mut HalfEdges,
+) -> usize
     requires below { h < (seen chart.now).half_edges }
     requires few { (seen chart.now).faces ≤ most_faces }
     ensures { listed out.new.items result ≡ inner_edge_neighbors (seen chart.now) (at q) h }
 {
     out.clear();
-    let mut waiting = HalfEdges::new();
+    waiting.clear();
     waiting.push(chart.partner(h));
     waiting.push(h);
-    let found = flips::inspect_flips(chart, q, FaceSet::empty(), &mut waiting, out);
+    let found = flips::inspect_flips(chart, q, FaceSet::empty(), waiting, out);
     out.reverse();
     found.count()
 }
@@ -84,7 +96,13 @@ pub fn is_part_of_convex_hull(chart: &Chart, h: usize) -> bool
 
 // On the edge of half-edge h.
 #[tactic(auto, unfolding(crate::specs::Neighbors::edge_neighbors))]
-pub fn edge_neighbors(chart: &Chart, q: GridPlace, h: usize, out: &mut HalfEdges) -> usize
+pub fn edge_neighbors(
+    chart: &Chart,
+    q: GridPlace,
+    h: usize,
+    waiting: &mut HalfEdges,
+    out: &mut HalfEdges,
+) -> usize
     requires below { h < (seen chart.now).half_edges }
     requires few { (seen chart.now).faces ≤ most_faces }
     ensures { listed out.new.items result ≡ edge_neighbors (seen chart.now) (at q) h }
@@ -92,11 +110,35 @@ pub fn edge_neighbors(chart: &Chart, q: GridPlace, h: usize, out: &mut HalfEdges
     if is_part_of_convex_hull(chart, h) {
         return hull_edge_neighbors(h, out);
     }
-    inner_edge_neighbors(chart, q, h, out)
+    inner_edge_neighbors(chart, q, h, waiting, out)
 }
 
-// The edges of the natural neighbours of a load q that is located, in `out`, and how many faces were opened.
+// The edges of the natural neighbours of a load q that is located, in `out`, and how many faces were opened. The search's stack is the caller's, whatever it
+// holds: a batch makes it once.
 #[tactic(auto, unfolding(crate::specs::Neighbors::neighbors_of))]
+pub fn natural_neighbor_edges_by(
+    chart: &Chart,
+    q: GridPlace,
+    location: Location,
+    waiting: &mut HalfEdges,
+    out: &mut HalfEdges,
+) -> usize
+    requires holds { Holds (seen chart.now) (at q) location }
+    requires few { (seen chart.now).faces ≤ most_faces }
+    ensures { listed out.new.items result ≡ neighbors_of (seen chart.now) (at q) location }
+{
+    match location {
+        Location::OnVertex(v) => vertex_neighbors(chart.vertices, v, out),
+        Location::OnEdge(h) => edge_neighbors(chart, q, h, waiting, out),
+        Location::OnFace(f) => face_neighbors(chart, q, f, waiting, out),
+        Location::OutsideOfConvexHull(_) => {
+            out.clear();
+            0
+        }
+    }
+}
+
+// The same for one load.
 pub fn get_natural_neighbor_edges(
     chart: &Chart,
     q: GridPlace,
@@ -107,13 +149,5 @@ pub fn get_natural_neighbor_edges(
     requires few { (seen chart.now).faces ≤ most_faces }
     ensures { listed out.new.items result ≡ neighbors_of (seen chart.now) (at q) location }
 {
-    match location {
-        Location::OnVertex(v) => vertex_neighbors(chart.vertices, v, out),
-        Location::OnEdge(h) => edge_neighbors(chart, q, h, out),
-        Location::OnFace(f) => face_neighbors(chart, q, f, out),
-        Location::OutsideOfConvexHull(_) => {
-            out.clear();
-            0
-        }
-    }
+    natural_neighbor_edges_by(chart, q, location, &mut HalfEdges::new(), out)
 }

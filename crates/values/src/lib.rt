@@ -2,9 +2,10 @@
 // Chart, load and location go side by side: that they belong together is one clause, which a type of the three would say as well, and no plainer.
 #![tactic(auto)]
 
-ghost use Rattle.std.specs.Prelude.{◌≡◌, [], Ok};
+ghost use Rattle.std.specs.Prelude.{◌≡◌, [], length, Ok};
 ghost use Rattle.geometry.specs.Grid.{at};
 ghost use Rattle.refusal.specs.Number.{refusal_of};
+ghost use Rattle.chart.specs.Limits.{most_half_edges};
 ghost use Rattle.chart.specs.Seen.{seen};
 ghost use Rattle.locate.specs.Location.{location_of};
 ghost use Rattle.locate.specs.Laws.{Holds};
@@ -117,22 +118,28 @@ fn value_by(
     }
 }
 
-// No heap: what methods 2 and 3 write on the way, in arrays for the longest list: the list of edges, and two numbers for each. A batch makes it once.
+// No heap: what methods 2 and 3 write on the way, in arrays for all half-edges of the largest chart: the search's stack, the list of edges, and two numbers
+// for each. A batch makes it once.
 #[derive(Drop)]
 pub struct Scratch {
+    pub waiting: HalfEdges,
     pub list: HalfEdges,
-    pub xs: [f64; 254],
-    pub ys: [f64; 254],
+    pub xs: [f64; 756],
+    pub ys: [f64; 756],
 }
 
 impl Scratch {
     pub fn new() -> Self
-        ensures { result.list.items ≡ [] }
+        ensures waiting { result.waiting.items ≡ [] }
+        ensures list { result.list.items ≡ [] }
+        ensures xs { length result.xs ≡ most_half_edges }
+        ensures ys { length result.ys ≡ most_half_edges }
     {
         Self {
+            waiting: HalfEdges::new(),
             list: HalfEdges::new(),
-            xs: [0.0; 254],
-            ys: [0.0; 254],
+            xs: [0.0; 756],
+            ys: [0.0; 756],
         }
     }
 }
@@ -150,7 +157,7 @@ fn natural_value(
     ensures { value_says (Ok result) ≡ natural_value (number_of method) (seen prepared.now.accepted.chart) (at q) (neighbors_of (seen prepared.now.accepted.chart) (at q) place).edges }
 {
     let chart = prepared.accepted.chart;
-    neighbors::get_natural_neighbor_edges(&chart, q, place, &mut scratch.list);
+    neighbors::natural_neighbor_edges_by(&chart, q, place, &mut scratch.waiting, &mut scratch.list);
     let n = scratch.list.len();
     let edges = EdgeList {
         chart,

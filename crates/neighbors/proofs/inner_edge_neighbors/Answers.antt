@@ -8,7 +8,7 @@ use Rattle.neighbors.proofs.inner_edge_neighbors.Goals as goal
 
 pub inspect_flips-found-requires-clause-ready : goal.inspect_flips-found-requires-clause-ready
 inspect_flips-found-requires-clause-ready c =
-    rw (c.empty.ensures, c.clear.ensures, c.push-2.ensures.items, c.push.ensures.items, c.new-waiting.ensures, c.partner.ensures.value)
+    rw (c.empty.ensures, c.clear.ensures, c.push-2.ensures.items, c.push.ensures.items, c.clear-2.ensures, c.partner.ensures.value)
     (ready-edge (seen c.args.chart.now) (at c.args.q) c.args.chart.now.in_range c.args.h c.requires.below)
 
 pub returns : goal.returns
@@ -16,6 +16,6 @@ unfolding inner_edge_neighbors
 returns c =
     let s = c.inspect_flips-found in
     let few : (seen c.args.chart.now).faces ≤ 256 = omega (arith, c.requires.few) in
-    let runs = rw (c.empty.ensures, c.clear.ensures, c.push-2.ensures.items, c.push.ensures.items, c.new-waiting.ensures, c.partner.ensures.value) at s.ensures.runs in
+    let runs = rw (c.empty.ensures, c.clear.ensures, c.push-2.ensures.items, c.push.ensures.items, c.clear-2.ensures, c.partner.ensures.value) at s.ensures.runs in
     rw (c.count.ensures, c.reverse.ensures.after)
     (ended (seen c.args.chart.now) (edge_search (seen c.args.chart.now) (at c.args.q) c.args.h) (has s.result.words) s.new.out.items c.deref_mut.result.now few c.deref_mut.ensures.value runs s.ensures.below)

@@ -11,14 +11,14 @@ use Rattle.values.proofs.natural_value.Goals as goal
 pub invariant_of-edges : goal.invariant_of-edges
 invariant_of-edges c =
     let chart = c.args.prepared.now.accepted.chart in
-    let e = ap (λ (n : Neighbors). n.edges) c.get_natural_neighbor_edges.ensures in
+    let e = ap (λ (n : Neighbors). n.edges) c.natural_neighbor_edges_by.ensures in
     let few = rw (c.deref.ensures.0, e) at c.deref.ensures.1 in
     record { listed = rw (c.deref.ensures.0, e) (record { below = listed_below (seen chart) (at c.args.q) chart.in_range c.args.place c.requires; few = omega arith }) }
 
 pub value_by-requires : goal.value_by-requires
 value_by-requires c =
     let chart = c.args.prepared.now.accepted.chart in
-    let e = ap (λ (n : Neighbors). n.edges) c.get_natural_neighbor_edges.ensures in
+    let e = ap (λ (n : Neighbors). n.edges) c.natural_neighbor_edges_by.ensures in
     let starts = c.to_origins.ensures ∙ ap (map (seen chart).origin) (c.deref_mut.ensures.value ∙ e) in
     subst (λ (t : Tables). Owners (seen t) c.deref-2.result.now) (sym c.gradients.ensures)
     (subst (Owners (seen chart)) (sym (c.deref-2.ensures.0 ∙ take_at c.to_origins.new.list _ _ (omega (arith, c.to_origins.auto.list, ap (λ (l : List ℕ). length l) c.deref_mut.ensures.value)) ∙ starts))
