@@ -123,7 +123,7 @@ pub fn edges<W: Write>(
     match found {
         Ok(listed) => {
             write!(out, "edges {} {}", listed.opened, listed.count)?;
-            numbers(out, list, listed.count)
+            numbers(out, list, listed.count as usize)
         }
         Err(refusal) => writeln!(out, "edges refused {}", refusal.number()),
     }
@@ -138,7 +138,8 @@ pub fn natural_weights<W: Write>(
     match found {
         Ok(listed) => {
             write!(out, "natural {} {}", listed.opened, listed.count)?;
-            for (owner, share) in owners.iter().zip(shares.iter()).take(listed.count) {
+            let count = listed.count as usize;
+            for (owner, share) in owners.iter().zip(shares.iter()).take(count) {
                 write!(out, " {owner} {}", Bits(*share))?;
             }
             writeln!(out)

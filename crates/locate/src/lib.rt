@@ -20,13 +20,14 @@ use geometry::GridPlace;
 use lines::{Line, Lines};
 use sides::Sides;
 
-// The Rust's `PositionInTriangulation`, without its `NoTriangulation`: a load on a chart has a place or is outside.
+// The Rust's `PositionInTriangulation`, without its `NoTriangulation`: a load on a chart has a place or is outside. The number of the vertex, half-edge or face
+// is 64 bits wide, as all numbers of the public calls are.
 #[derive(Clone, Copy, PartialEq, Eq)]
 pub enum Location {
-    OnVertex(usize),
-    OnEdge(usize),
-    OnFace(usize),
-    OutsideOfConvexHull(usize),
+    OnVertex(u64),
+    OnEdge(u64),
+    OnFace(u64),
+    OutsideOfConvexHull(u64),
 }
 
 // Whether vertex v is at q: the one line of `delaunay::stands_at`, under the words of the location.
@@ -92,11 +93,11 @@ pub fn locate_by(lines: &Lines, q: GridPlace) -> Location
 {
     let chart = lines.chart;
     if let Some(v) = find_vertex(&chart, q) {
-        return Location::OnVertex(v);
+        return Location::OnVertex(v as u64);
     }
     let mut left = no_side();
     if let Some(h) = find_edge(lines, q, &mut left) {
-        return Location::OnEdge(h);
+        return Location::OnEdge(h as u64);
     }
     let sides = Sides {
         chart,
@@ -104,9 +105,9 @@ pub fn locate_by(lines: &Lines, q: GridPlace) -> Location
         left: &left,
     };
     if let Some(f) = sides.find_face() {
-        return Location::OnFace(f);
+        return Location::OnFace(f as u64);
     }
-    Location::OutsideOfConvexHull(sides.find_outer())
+    Location::OutsideOfConvexHull(sides.find_outer() as u64)
 }
 
 // The same for one load.

@@ -128,9 +128,9 @@ pub fn natural_neighbor_edges_by(
     ensures { listed out.new.items result ≡ neighbors_of (seen chart.now) (at q) location }
 {
     match location {
-        Location::OnVertex(v) => vertex_neighbors(chart.vertices, v, out),
-        Location::OnEdge(h) => edge_neighbors(chart, q, h, waiting, out),
-        Location::OnFace(f) => face_neighbors(chart, q, f, waiting, out),
+        Location::OnVertex(v) => vertex_neighbors(chart.vertices, v as usize, out),
+        Location::OnEdge(h) => edge_neighbors(chart, q, h as usize, waiting, out),
+        Location::OnFace(f) => face_neighbors(chart, q, f as usize, waiting, out),
         Location::OutsideOfConvexHull(_) => {
             out.clear();
             0

@@ -54,8 +54,8 @@ pub fn gradient_on(valued: &ValuedChart, v: usize) -> Result<Gradient, Refusal>
 // How many edges or weights were written, and how many faces were opened.
 #[derive(Clone, Copy, PartialEq, Eq)]
 pub struct Listed {
-    pub count: usize,
-    pub opened: usize,
+    pub count: u64,
+    pub opened: u64,
 }
 
 // A list into the first elements of a lent slice: `copy_from_slice` takes one type on both sides.
@@ -80,8 +80,8 @@ fn edges_at(accepted: &AcceptedChart, q: GridPlace, place: Location, out: &mut [
     let opened = neighbors::get_natural_neighbor_edges(&accepted.chart, q, place, &mut list);
     copy_list(&list, out);
     Listed {
-        count: list.len(),
-        opened,
+        count: list.len() as u64,
+        opened: opened as u64,
     }
 }
 
@@ -119,8 +119,8 @@ fn shares_at(
     };
     natural::natural_weights(&edges, q, owners, weights);
     Listed {
-        count: list.len(),
-        opened,
+        count: list.len() as u64,
+        opened: opened as u64,
     }
 }
 

@@ -47,8 +47,10 @@ pub fn site_at(chart: &Chart, q: GridPlace) -> Result<Site, Refusal>
     ensures { result ≡ site_at (seen chart.now) (at q) }
 {
     match locate::locate(chart, q) {
-        Location::OnEdge(h) if !neighbors::is_part_of_convex_hull(chart, h) => Ok(Site::Across(h)),
-        Location::OnFace(f) => Ok(Site::Inside(chart.adjacent(f))),
+        Location::OnEdge(h) if !neighbors::is_part_of_convex_hull(chart, h as usize) => {
+            Ok(Site::Across(h as usize))
+        }
+        Location::OnFace(f) => Ok(Site::Inside(chart.adjacent(f as usize))),
         _ => Err(Refusal::NoSite),
     }
 }

@@ -96,10 +96,10 @@ fn place_numbers(place: Location) -> [u64; 2]
     ensures { result ≡ place_numbers place }
 {
     match place {
-        Location::OnVertex(v) => [1, v as u64],
-        Location::OnEdge(h) => [2, h as u64],
-        Location::OnFace(f) => [3, f as u64],
-        Location::OutsideOfConvexHull(h) => [4, h as u64],
+        Location::OnVertex(v) => [1, v],
+        Location::OnEdge(h) => [2, h],
+        Location::OnFace(f) => [3, f],
+        Location::OutsideOfConvexHull(h) => [4, h],
     }
 }
 
@@ -146,14 +146,14 @@ pub fn put_barycentric(
 {
     match answer {
         Ok(BarycentricWeights::OneVertex(u)) => {
-            put_weights(&[u.vertex as u64], &[u.weight], vertices, weights, found)
+            put_weights(&[u.vertex], &[u.weight], vertices, weights, found)
         }
         Ok(BarycentricWeights::TwoWeights(u, v)) => {
-            let owners = [u.vertex as u64, v.vertex as u64];
+            let owners = [u.vertex, v.vertex];
             put_weights(&owners, &[u.weight, v.weight], vertices, weights, found)
         }
         Ok(BarycentricWeights::ThreeWeights(u, v, w)) => {
-            let owners = [u.vertex as u64, v.vertex as u64, w.vertex as u64];
+            let owners = [u.vertex, v.vertex, w.vertex];
             let list = [u.weight, v.weight, w.weight];
             put_weights(&owners, &list, vertices, weights, found)
         }
@@ -168,7 +168,7 @@ pub fn put_tally(answer: Result<Listed, Refusal>, out: &mut [u64]) -> u64
     ensures { left result out.new ≡ tally_left (neighbors_say answer) out.old }
 {
     match answer {
-        Ok(listed) => put(&[listed.count as u64, listed.opened as u64], out),
+        Ok(listed) => put(&[listed.count, listed.opened], out),
         Err(refusal) => return refusal.number(),
     }
     0

@@ -64,9 +64,9 @@ pub fn weights_at(
     ensures { weights_say result ≡ barycentric_at (seen chart.now) (at q) place }
 {
     match place {
-        Location::OnVertex(v) => Ok(weights::vertex_weights(v)),
-        Location::OnEdge(h) => Ok(weights::edge_weights(chart, q, h)),
-        Location::OnFace(f) => Ok(weights::face_weights(chart, q, f)),
+        Location::OnVertex(v) => Ok(weights::vertex_weights(v as usize)),
+        Location::OnEdge(h) => Ok(weights::edge_weights(chart, q, h as usize)),
+        Location::OnFace(f) => Ok(weights::face_weights(chart, q, f as usize)),
         Location::OutsideOfConvexHull(_) => Err(Refusal::Outside),
     }
 }
@@ -88,16 +88,16 @@ fn weighed_value(valued: &ValuedChart, w: BarycentricWeights) -> f64
 {
     match w {
         BarycentricWeights::OneVertex(u) => {
-            interpolate::value_sum(valued, &[u.vertex], &[u.weight])
+            interpolate::value_sum(valued, &[u.vertex as usize], &[u.weight])
         }
         BarycentricWeights::TwoWeights(u, v) => {
-            interpolate::value_sum(valued, &[u.vertex, v.vertex], &[u.weight, v.weight])
+            let owners = [u.vertex as usize, v.vertex as usize];
+            interpolate::value_sum(valued, &owners, &[u.weight, v.weight])
         }
-        BarycentricWeights::ThreeWeights(u, v, t) => interpolate::value_sum(
-            valued,
-            &[u.vertex, v.vertex, t.vertex],
-            &[u.weight, v.weight, t.weight],
-        ),
+        BarycentricWeights::ThreeWeights(u, v, t) => {
+            let owners = [u.vertex as usize, v.vertex as usize, t.vertex as usize];
+            interpolate::value_sum(valued, &owners, &[u.weight, v.weight, t.weight])
+        }
     }
 }
 

@@ -11,10 +11,10 @@ use chart::Chart;
 use geometry::GridPlace;
 use points::Point2;
 
-// A vertex and its weight.
+// A vertex and its weight. The vertex' number is 64 bits wide, as all numbers of the public calls are.
 #[derive(Clone, Copy)]
 pub struct Weighted {
-    pub vertex: usize,
+    pub vertex: u64,
     pub weight: f64,
 }
 
@@ -68,11 +68,11 @@ fn weigh_two(chart: &Chart, q: GridPlace, v0: usize, v1: usize) -> BarycentricWe
     let (w0, w1) = two_point_interpolation(p0, p1, Point2::from(q));
     BarycentricWeights::TwoWeights(
         Weighted {
-            vertex: v0,
+            vertex: v0 as u64,
             weight: w0,
         },
         Weighted {
-            vertex: v1,
+            vertex: v1 as u64,
             weight: w1,
         },
     )
@@ -92,15 +92,15 @@ fn weigh_three(chart: &Chart, q: GridPlace, v0: usize, v1: usize, v2: usize) -> 
     let (w0, w1, w2) = barycentric_interpolation(p0, p1, p2, Point2::from(q));
     BarycentricWeights::ThreeWeights(
         Weighted {
-            vertex: v0,
+            vertex: v0 as u64,
             weight: w0,
         },
         Weighted {
-            vertex: v1,
+            vertex: v1 as u64,
             weight: w1,
         },
         Weighted {
-            vertex: v2,
+            vertex: v2 as u64,
             weight: w2,
         },
     )
@@ -111,7 +111,7 @@ pub fn vertex_weights(v: usize) -> BarycentricWeights
     ensures { weights_say (Ok result) ≡ vertex_weights v }
 {
     BarycentricWeights::OneVertex(Weighted {
-        vertex: v,
+        vertex: v as u64,
         weight: 1.0,
     })
 }
