@@ -87,13 +87,14 @@ pub record Demand3 (Q : Queries) (s : ℕ) (chart : List ℕ) (cs : List Call) (
       (ds : List Call) → OneChart chart ds → joined ds ≡ joined cs
       → (answers Q (fresh s) ds ≡ answers Q (fresh s) cs) × (after Q (fresh s) ds ≡ after Q (fresh s) cs)
 
--- ---- the tie to the code: a call that was made, with what it returned and what it left in the answer slice
+-- ---- the tie to the code: a call that was made, with its number and the book after it, as `returned_of` reads them off the Result that it handed out, and
+-- what it left in the answer slice. Of the Results themselves: crate `demand`, specs/Called
 pub record MadeCall : Type 0 where
   pub call : Call
   pub result : Returned
   pub left : List ℕ
 
--- calls that were made, each handed the book that the one before it returned; the fact of each is the batch's contract, word for word
+-- calls that were made, each handed the book that the one before it returned; the fact of each is the batch's contract, its Result read so
 abbrev pub Made : Queries → Book → List MadeCall → Type 0
 Made Q b [] = Unit {0}
 Made Q b (t ∷ ts) = (outcome t.result t.left ≡ batch_of Q b t.call.chart t.call.entries t.call.lent) × Made Q t.result.book ts

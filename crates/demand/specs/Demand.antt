@@ -1,4 +1,4 @@
--- Demand 3 of the public calls `fresh` and `batch`: `demand`, and of calls that were made, `demand-made`. Assumes nothing.
+-- Demand 3 of the public calls `fresh` and `batch`: `demand`; of calls that were made, `demand-made`. Of the Results that they hand out: Called. Assumes nothing.
 use Rattle.std.specs.Prelude.{◌≡◌, refl, List, [], ◌∷◌, ◌++◌, cond, ℕ, zero, suc, ◌+◌, ◌-◌, ◌*◌, ◌/◌, ◌%◌, ◌≤◌, eqb, ℤ, pos, length, take, drop}
 use Rattle.std.proofs.Common.{sym, ◌∙◌, ap, subst, append-nil, arith, length-drop, get_or-take, get_or-drop, length-take-le, eq-eqb, le-ltb}
 use Rattle.reading.specs.Reading.{chart_refusal_of}
@@ -19,7 +19,8 @@ pub demand : (s : ℕ) → 1 ≤ s → s ≤ section_max → (chart : List ℕ) 
     → Demand3 queries s chart cs (tally queries s chart (joined cs))
 demand = demand3 queries
 
--- the same of calls that were made: each fact of `Made` is the contract of `estivolh::batch`
+-- the same of calls that were made, each with its number, 0 for none, and the book that stands after it: `returned_of` reads both off the Result that
+-- `estivolh::batch` hands out and the book that it was handed, so that each fact of `Made` is its contract. Of the Results themselves: Called, `demand-called`
 pub demand-made : (s : ℕ) → 1 ≤ s → s ≤ section_max → (chart : List ℕ) (ts : List MadeCall) → Made queries (fresh s) ts → OneChart chart (calls_of ts)
     → Demand3Made queries s chart ts (tally queries s chart (joined (calls_of ts)))
 demand-made = demand3-made queries
