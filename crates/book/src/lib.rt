@@ -27,7 +27,7 @@ pub struct Book {
     pub retired: u64,
 }
 
-// The book of 0 sections, all zero: it stands beside refusal 1 of a fresh book. Written out, so that the edit `fresh_beside_refusal` has what to change.
+// The book of 0 sections, all zero: it stands beside refusal 1 of a fresh book. Written out, so that the edit `default_with_sections` has what to change.
 impl Default for Book {
     ghost use Rattle.std.specs.Prelude.{◌≡◌};
     ghost use Rattle.book.specs.Books.{zero_book};
