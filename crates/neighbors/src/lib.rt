@@ -20,7 +20,7 @@ use locate::Location;
 
 // In face f: its three half-edges are searched from, and it is opened.
 // By answers, what the check does not find: what the stack holds after several pushes.
-pub fn face_neighbors(
+fn face_neighbors_by(
     chart: &Chart,
     q: GridPlace,
     f: usize,
@@ -45,7 +45,7 @@ pub fn face_neighbors(
 
 // On the inner edge of half-edge h: it and its partner are searched from.
 // By answers, what the check does not find: what the stack holds after several pushes.
-pub fn inner_edge_neighbors(
+fn inner_edge_neighbors_by(
     chart: &Chart,
     q: GridPlace,
     h: usize,
@@ -96,7 +96,7 @@ pub fn is_part_of_convex_hull(chart: &Chart, h: usize) -> bool
 
 // On the edge of half-edge h.
 #[tactic(auto, unfolding(crate::specs::Neighbors::edge_neighbors))]
-pub fn edge_neighbors(
+fn edge_neighbors_by(
     chart: &Chart,
     q: GridPlace,
     h: usize,
@@ -110,7 +110,7 @@ pub fn edge_neighbors(
     if is_part_of_convex_hull(chart, h) {
         return hull_edge_neighbors(h, out);
     }
-    inner_edge_neighbors(chart, q, h, waiting, out)
+    inner_edge_neighbors_by(chart, q, h, waiting, out)
 }
 
 // The edges of the natural neighbours of a load q that is located, in `out`, and how many faces were opened. The search's stack is the caller's, whatever it
@@ -129,8 +129,8 @@ pub fn natural_neighbor_edges_by(
 {
     match location {
         Location::OnVertex(v) => vertex_neighbors(chart.vertices, v as usize, out),
-        Location::OnEdge(h) => edge_neighbors(chart, q, h as usize, waiting, out),
-        Location::OnFace(f) => face_neighbors(chart, q, f as usize, waiting, out),
+        Location::OnEdge(h) => edge_neighbors_by(chart, q, h as usize, waiting, out),
+        Location::OnFace(f) => face_neighbors_by(chart, q, f as usize, waiting, out),
         Location::OutsideOfConvexHull(_) => {
             out.clear();
             0
@@ -138,7 +138,31 @@ pub fn natural_neighbor_edges_by(
     }
 }
 
-// The same for one load.
+// The same with a stack of the call's own, for one load.
+pub fn face_neighbors(chart: &Chart, q: GridPlace, f: usize, out: &mut HalfEdges) -> usize
+    requires below { f < (seen chart.now).faces }
+    requires few { (seen chart.now).faces ≤ most_faces }
+    ensures { listed out.new.items result ≡ face_neighbors (seen chart.now) (at q) f }
+{
+    face_neighbors_by(chart, q, f, &mut HalfEdges::new(), out)
+}
+
+pub fn inner_edge_neighbors(chart: &Chart, q: GridPlace, h: usize, out: &mut HalfEdges) -> usize
+    requires below { h < (seen chart.now).half_edges }
+    requires few { (seen chart.now).faces ≤ most_faces }
+    ensures { listed out.new.items result ≡ inner_edge_neighbors (seen chart.now) (at q) h }
+{
+    inner_edge_neighbors_by(chart, q, h, &mut HalfEdges::new(), out)
+}
+
+pub fn edge_neighbors(chart: &Chart, q: GridPlace, h: usize, out: &mut HalfEdges) -> usize
+    requires below { h < (seen chart.now).half_edges }
+    requires few { (seen chart.now).faces ≤ most_faces }
+    ensures { listed out.new.items result ≡ edge_neighbors (seen chart.now) (at q) h }
+{
+    edge_neighbors_by(chart, q, h, &mut HalfEdges::new(), out)
+}
+
 pub fn get_natural_neighbor_edges(
     chart: &Chart,
     q: GridPlace,

@@ -4,7 +4,7 @@ use Rattle.geometry.specs.Grid.{at}
 use Rattle.chart.specs.Seen.{seen}
 use Rattle.neighbors.specs.Neighbors.{inner_edge_neighbors, edge_search}
 use Rattle.neighbors.proofs.Ends.{ready-edge, ended}
-use Rattle.neighbors.proofs.inner_edge_neighbors.Goals as goal
+use Rattle.neighbors.proofs.inner_edge_neighbors_by.Goals as goal
 
 pub inspect_flips-found-requires-clause-ready : goal.inspect_flips-found-requires-clause-ready
 inspect_flips-found-requires-clause-ready c =
