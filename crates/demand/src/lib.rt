@@ -1,4 +1,5 @@
-// Demand 3 of the public calls: specs/Demand.antt. Below, a function that makes such calls; what it promises is read off the theorem.
+// Demand 3 of the public calls: specs/Demand.antt, and of the Results that they hand out specs/Called.antt. Below, a function that makes such calls; what it
+// promises is read off the theorem.
 #![tactic(auto)]
 
 ghost use Rattle.std.specs.Prelude.{◌≤◌, length};
