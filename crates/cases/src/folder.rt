@@ -5,7 +5,8 @@ use std::io;
 use std::io::Write;
 use std::rt::{Env, Files};
 
-// Whether there are any: the first is argument 1.
+// Whether there are any: the first is argument 1. A case's answers are handed out before the next is read, which may be read from what they are
+// written to.
 pub fn cases<R: Files + Env + AllocGlobal, W: Write>(rt: &R, out: &mut W) -> io::Result<bool> {
     // `Env::arg` writes into lent room
     let mut space = [0u8; 4096];
@@ -14,6 +15,7 @@ pub fn cases<R: Files + Env + AllocGlobal, W: Write>(rt: &R, out: &mut W) -> io:
             return Ok(i > 1);
         };
         case::print(out, rt.alloc(), &read_texts(rt, folder)?)?;
+        out.flush()?;
     }
     Ok(true)
 }

@@ -4,7 +4,8 @@ use case_files::packed::read_texts;
 use std::io;
 use std::io::Write;
 
-// A loop has to end, and nothing says that the input does: its bound is a number that no run uses up.
+// A loop has to end, and nothing says that the input does: its bound is a number that no run uses up. Whoever sends a case may wait for its
+// answers before sending the next: they are handed out before it is read.
 pub fn cases<R: Input + AllocGlobal, W: Write>(rt: &R, out: &mut W) -> io::Result<()> {
     let mut input = rt.reader();
     for _ in 0..u64::MAX {
@@ -13,6 +14,7 @@ pub fn cases<R: Input + AllocGlobal, W: Write>(rt: &R, out: &mut W) -> io::Resul
             Ok(None) => break,
             Err(stop) => return case::print_stop(out, stop),
         }
+        out.flush()?;
     }
     Ok(())
 }
