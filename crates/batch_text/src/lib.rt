@@ -4,9 +4,9 @@
 ghost use Rattle.std.specs.Prelude.{◌≡◌};
 ghost use Rattle.batch_text.specs.Batch.{two_of, opening_of};
 
+use arrayvec::ArrayVec;
 use case_text::decimal::{decimal, unsigned};
 use case_text::lines::split_once;
-use std::alloc::{AllocError, Global};
 
 // The first line of a batch text.
 #[derive(Clone, Copy)]
@@ -39,17 +39,14 @@ pub fn read_opening(line: &[u8]) -> Option<Opening>
     })
 }
 
-// The numbers of an entry slice; `None` where the line is broken. An empty line has none.
-pub fn read_entries(alloc: Global, line: &[u8]) -> Result<Option<Vec<i64>>, AllocError> {
-    let mut entries = Vec::new(alloc);
+// The numbers of an entry slice; `None` where the line is broken, or has more of them than the answer holds. An empty line has none.
+pub fn read_entries<const N: usize>(line: &[u8]) -> Option<ArrayVec<i64, N>> {
+    let mut entries = ArrayVec::new();
     if line.is_empty() {
-        return Ok(Some(entries));
+        return Some(entries);
     }
     for part in line.split(|&b| b == b' ') {
-        let Some(number) = decimal(part) else {
-            return Ok(None);
-        };
-        entries.push(number)?;
+        entries.try_push(decimal(part)?).ok()?;
     }
-    Ok(Some(entries))
+    Some(entries)
 }

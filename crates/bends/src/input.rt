@@ -1,11 +1,14 @@
 // What the program reads: the bytes of chart.txt, and of the log its first bytes and its size.
-ghost use Rattle.std.specs.Prelude.{◌≡◌, ◌≤◌, ◌<◌, IfOk, vec_len};
-ghost use Rattle.bends.specs.Input.{broken_size, Counted, Handed};
+ghost use Rattle.std.specs.Prelude.{◌≡◌, ◌≤◌, ◌<◌, [], length, IfOk, OnOk, IfSome};
+ghost use Rattle.std.specs.Io.Iter.{u64_saturate};
+ghost use Rattle.std.specs.Io.KnownBytes.{Consumes, IsAtEnd};
+ghost use Rattle.arrayvec.specs.ArrayVec.{array_vec_len};
+ghost use Rattle.bends.specs.Input.{broken_size, Counted, Handed, Front, Whole, Known};
 
-use std::alloc::Global;
+use arrayvec::ArrayVec;
 use std::fs::File;
 use std::io;
-use std::io::{ErrorKind, Read};
+use std::io::Read;
 use std::rt::Files;
 
 // So many bytes of a text are kept: no accepted chart and no accepted log has more.
@@ -14,58 +17,111 @@ const LIMIT: usize = 65536;
 // A size that no accepted log has, of one whose reading failed: it is refused as a whole, by its length.
 const BROKEN: usize = 1;
 
+// The first bytes of a text. Of a fixed size: there is no heap, so that no text is too much for it.
+pub type Text = ArrayVec<u8, 65536>;
+
 // The first bytes of a log, and how many it has.
 #[derive(Drop)]
 pub struct Log {
-    pub kept: Vec<u8>,
+    pub kept: Text,
     pub size: usize,
 }
 
 // Reads chart.txt, or as much of it as is kept. A file that is missing or cannot be read counts as empty. The test program reads its files so too
 // (case_files); a crate for both would stand between this program and the library for ten lines.
-pub fn read_chart<R: Files + AllocGlobal>(rt: &R) -> io::Result<Vec<u8>> {
-    let mut chart = Vec::new(rt.alloc());
-    let Ok(file) = File::open(rt, "chart.txt") else {
-        return Ok(chart);
+#[inline(never)]
+pub fn read_chart<R: Files>(rt: &R) -> Text
+    ensures { array_vec_len result ≤ LIMIT }
+{
+    let Ok(mut file) = File::open(rt, "chart.txt") else {
+        return Text::new();
     };
-    match file.take(LIMIT as u64).read_to_end(&mut chart) {
-        Ok(_) => Ok(chart),
-        Err(e) if e.kind() == ErrorKind::OutOfMemory => Err(e),
-        Err(_) => Ok(Vec::new(rt.alloc())),
+    read_file(&mut file)
+}
+
+// Where a read fails no part of the file counts.
+fn read_file<R: Read>(file: &mut R) -> Text
+    ensures bound { array_vec_len result ≤ LIMIT }
+    ensures known { IfSome (R.remaining file.old) (λ bytes. Front LIMIT bytes result.items) }
+{
+    let mut text = Text::new();
+    match front(file, &mut text) {
+        Ok(()) => text,
+        Err(_) => Text::new(),
     }
 }
 
 // Reads the log. Where a read fails, no part of it counts.
-pub fn read_log<R: Read>(alloc: Global, input: &mut R) -> io::Result<Log>
-    ensures { IfOk result (λ log. Handed LIMIT (vec_len log.kept) log.size) }
+#[inline(never)]
+pub fn read_log<R: Read>(input: &mut R) -> Log
+    ensures handed { Handed LIMIT (array_vec_len result.kept) result.size }
+    ensures bound { array_vec_len result.kept ≤ LIMIT }
+    ensures known { IfSome (R.remaining input.old) (λ bytes. Known LIMIT bytes result.kept.items result.size) }
 {
-    let mut kept = Vec::new(alloc);
+    let mut kept = Text::new();
     match fill(input, &mut kept) {
-        Ok(size) => Ok(Log { kept, size }),
-        Err(e) if e.kind() == ErrorKind::OutOfMemory => Err(e),
-        Err(_) => Ok(broken_log(alloc)),
+        Ok(size) => Log { kept, size },
+        Err(_) => broken_log(),
     }
 }
 
-fn broken_log(alloc: Global) -> Log
-    ensures { (vec_len result.kept ≡ 0) × (result.size ≡ broken_size) }
+fn broken_log() -> Log
+    ensures { (result.kept.items ≡ []) × (result.size ≡ broken_size) }
 {
     Log {
-        kept: Vec::new(alloc),
+        kept: Text::new(),
         size: BROKEN,
     }
 }
 
 // Keeps the first bytes of the input, reads the rest and drops it: how many there are. The rest may be endless, and takes no memory.
 // The first failing read ends it: a broken connection fails once and then ends.
-fn fill<R: Read>(input: &mut R, kept: &mut Vec<u8>) -> io::Result<usize>
-    requires { vec_len kept.old ≡ 0 }
-    ensures { IfOk result (λ size. Counted LIMIT (vec_len kept.new) size) }
+fn fill<R: Read>(input: &mut R, kept: &mut Text) -> io::Result<usize>
+    ensures counted { IfOk result (λ size. Counted LIMIT (array_vec_len kept.new) size) }
+    ensures bound { array_vec_len kept.new ≤ LIMIT }
+    ensures known { IfOk result (λ size. IfSome (R.remaining input.old) (λ bytes. Whole LIMIT bytes kept.new.items size)) }
 {
-    let n = input.by_ref().take(LIMIT as u64).read_to_end(kept)?;
+    front(input, kept)?;
+    let n = kept.len();
     if n < LIMIT {
         return Ok(n);
     }
-    let rest = io::copy(input, &mut io::sink())?;
-    Ok(n.saturating_add(rest as usize))
+    let rest = count(input)?;
+    Ok(n.saturating_add(rest))
+}
+
+// Reads until the input ends, or as much as is kept. A read that fails, or that a signal interrupts, ends it.
+fn front<R: Read>(input: &mut R, text: &mut Text) -> io::Result<()>
+    ensures bound { array_vec_len text.new ≤ LIMIT }
+    ensures bytes { Consumes (R.remaining input.old) (R.remaining input.new) text.new.items }
+    ensures whole { OnOk result (array_vec_len text.new < LIMIT → IsAtEnd (R.remaining input.new)) }
+{
+    text.clear();
+    let mut room = [0u8; LIMIT];
+    while text.len() < LIMIT {
+        let space = LIMIT - text.len();
+        let n = input.read(&mut room[..space])?;
+        if n == 0 {
+            return Ok(());
+        }
+        let _fits = text.try_extend_from_slice(&room[..n]);
+    }
+    Ok(())
+}
+
+// Reads the input to its end: how many bytes came. A loop has to end, and nothing says that the input does: it stops at a number that no log
+// reaches.
+fn count<R: Read>(input: &mut R) -> io::Result<usize>
+    ensures { IfOk result (λ n. IfSome (R.remaining input.old) (λ bytes. n ≡ u64_saturate (length bytes))) }
+{
+    let mut room = [0u8; LIMIT];
+    let mut size = 0usize;
+    while size < usize::MAX {
+        let n = input.read(&mut room)?;
+        if n == 0 {
+            return Ok(size);
+        }
+        size = size.saturating_add(n);
+    }
+    Ok(size)
 }

@@ -4,12 +4,12 @@
 
 ghost use Rattle.std.specs.Prelude.{◌≡◌, ◌≤◌, [], length, IsOk};
 
+use arrayvec::ArrayVec;
 use batch_text::{read_entries, read_opening, read_two};
 use book::Book;
 use case_text::LIMIT;
 use case_text::lines::Lines;
 use case_text::stop::Stop;
-use std::alloc::Global;
 use std::io::Write;
 
 // No batch here has more numbers, or more entries: the room of its answers bounds what a text may ask for.
@@ -18,7 +18,7 @@ const NUMBERS: usize = 2560;
 const ENTRIES: usize = 512;
 
 // Answers the batches, up to the first that is none.
-pub fn batches<W: Write>(out: &mut W, alloc: Global, chart: &[u8], text: &[u8]) -> Result<(), Stop>
+pub fn batches<W: Write>(out: &mut W, chart: &[u8], text: &[u8]) -> Result<(), Stop>
     ensures cut { 65536 ≤ length text.now → result ≡ Err Stop.Batch }
     ensures none { text.now ≡ [] → IsOk result × (W.contents out.new ≡ W.contents out.old) }
 {
@@ -37,7 +37,7 @@ pub fn batches<W: Write>(out: &mut W, alloc: Global, chart: &[u8], text: &[u8]) 
     };
     columns(&mut lines, &mut book)?;
     let entries = lines.next().flatten();
-    let mut book = batch(out, alloc, chart, entries, book, opening.room)?;
+    let mut book = batch(out, chart, entries, book, opening.room)?;
     // each turn takes two lines, so that no `for` fits
     while let Some(line) = lines.next() {
         let (room, cut) = line.and_then(read_two).ok_or(Stop::Batch)?;
@@ -45,7 +45,7 @@ pub fn batches<W: Write>(out: &mut W, alloc: Global, chart: &[u8], text: &[u8]) 
         let Some(entries) = lines.next() else {
             return Err(Stop::Batch);
         };
-        book = batch(out, alloc, &chart[..kept], entries, book, room)?;
+        book = batch(out, &chart[..kept], entries, book, room)?;
     }
     Ok(())
 }
@@ -62,17 +62,13 @@ fn columns(lines: &mut Lines<'_>, book: &mut Book) -> Result<(), Stop> {
 // The lines of a batch, with its entries' line: the book after it.
 fn batch<W: Write>(
     out: &mut W,
-    alloc: Global,
     chart: &[u8],
     line: Option<&[u8]>,
     book: Book,
     room: u64,
 ) -> Result<Book, Stop> {
     let line = line.ok_or(Stop::Batch)?;
-    let entries = read_entries(alloc, line)?.ok_or(Stop::Batch)?;
-    if NUMBERS < entries.len() {
-        return Err(Stop::Batch);
-    }
+    let entries: ArrayVec<i64, NUMBERS> = read_entries(line).ok_or(Stop::Batch)?;
     let mut answers = [0u64; ENTRIES];
     let lent = ENTRIES.min(room as usize);
     match estivolh::batch(book, chart, &entries, &mut answers[..lent]) {

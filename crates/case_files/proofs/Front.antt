@@ -1,22 +1,19 @@
--- What a reader with a limit gave is the first of what the reader had.
-use Rattle.std.proofs.Common.{◌≡◌, ℕ, List, [], ◌++◌, length, take, drop, Option, Some, None, IfSome, sym, ◌∙◌, ap, subst}
-use Rattle.std.specs.Option.{option_map}
-use Rattle.std.specs.Io.{StartsWith, appended_bytes}
-use Rattle.std.specs.Io.KnownBytes.{Consumes}
-use Rattle.std.proofs.lemmas.List.{take-append-drop, append_assoc}
-use Rattle.std.proofs.Math.Seq.{take-append_seam}
+-- What was read of known bytes, up to a limit, is the first of them.
+use Rattle.std.proofs.Common.{◌≡◌, ◌≤◌, ◌<◌, ◌⊎◌, inl, inr, ℕ, List, [], ◌++◌, length, take, Option, Some, None, IfSome, sym, ◌∙◌, ap, append-nil}
+use Rattle.std.proofs.Math.Nat.{eq-or-lt_of_le}
+use Rattle.std.proofs.Math.Seq.{take-append_seam, take-length}
+use Rattle.std.specs.Io.KnownBytes.{Consumes, IsAtEnd}
+use Rattle.std.proofs.lemmas.List.{take_all}
 
-front : (n : ℕ) (xs bs ys : List ℕ) → take n xs ≡ bs ++ ys → StartsWith xs bs
-front n xs bs ys e =
-    let whole : xs ≡ bs ++ (ys ++ drop n xs) = sym (take-append-drop n xs) ∙ ap (λ l. l ++ drop n xs) e ∙ append_assoc bs ys (drop n xs) in
-    ap (take (length bs)) whole ∙ take-append_seam bs (ys ++ drop n xs)
+cases : (most : ℕ) (xs ys : List ℕ) → length xs ≤ most → (length xs < most → ys ≡ []) → (length xs ≡ most) ⊎ (length xs < most) → xs ≡ take most (xs ++ ys)
+cases most xs ys h e (inl full) = sym (ap (λ n. take n (xs ++ ys)) (sym full) ∙ take-append_seam xs ys)
+cases most xs ys h e (inr less) = sym (ap (λ l. take most (xs ++ l)) (e less) ∙ ap (take most) (append-nil xs) ∙ take_all most xs h)
 
-read : (read rest : Option (List ℕ)) (n : ℕ) (old bs : List ℕ) → old ≡ [] → Consumes (option_map (take n) read) rest (appended_bytes old bs) → IfSome read (λ xs. StartsWith xs bs)
-read None rest n old bs e c = tt
-read (Some xs) None n old bs e c = absurd c
-read (Some xs) (Some ys) n old bs e c = front n xs bs ys (c ∙ ap (λ o. appended_bytes o bs ++ ys) e)
+pub first-read : (known rest : Option (List ℕ)) (most : ℕ) (xs : List ℕ) → length xs ≤ most → Consumes known rest xs → (length xs < most → IsAtEnd rest) → IfSome known (λ bytes. xs ≡ take most bytes)
+first-read None rest most xs h c e = tt
+first-read (Some bytes) None most xs h c e = absurd c
+first-read (Some bytes) (Some ys) most xs h c e = cases most xs ys h e (eq-or-lt_of_le h) ∙ ap (take most) (sym c)
 
-pub front-read : (known given rest : Option (List ℕ)) (n : ℕ) (old bs : List ℕ) → given ≡ known → old ≡ [] → Consumes (option_map (take n) given) rest (appended_bytes old bs) → IfSome known (λ xs. StartsWith xs bs)
-front-read known given rest n old bs same e c =
-    let P : Option (List ℕ) → Type 0 = λ k. IfSome k (λ xs. StartsWith xs bs) in
-    subst P same (read given rest n old bs e c)
+pub mapped : (known : Option (List ℕ)) (P Q : List ℕ → Type 0) → ((bytes : List ℕ) → P bytes → Q bytes) → IfSome known P → IfSome known Q
+mapped None P Q f h = tt
+mapped (Some bytes) P Q f h = f bytes h

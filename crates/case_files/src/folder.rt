@@ -1,14 +1,16 @@
 // The files of a case folder.
-ghost use Rattle.std.specs.Prelude.{◌≡◌, ◌≤◌, length, IfOk, IfSome, string_bytes};
+ghost use Rattle.std.specs.Prelude.{◌≡◌, ◌≤◌, ◌<◌, length, min, IfSome, IfNone};
+ghost use Rattle.arrayvec.specs.ArrayVec.{array_vec_len};
 ghost use Rattle.case_files.specs.Path.{path_of};
+ghost use Rattle.case_files.specs.Files.{FrontOrNone};
 
-use crate::Texts;
+use crate::read::fill;
+use crate::{Text, Texts};
+use arrayvec::ArrayString;
 use case_text::LIMIT;
-use std::alloc::{AllocError, Global};
 use std::env::FillError;
 use std::fs::File;
-use std::io;
-use std::io::{ErrorKind, Read};
+use std::io::Read;
 use std::rt::{Env, Files};
 
 // So many bytes of rooms.txt are read at most: a list of rooms has fewer (`case_rooms`), so that no more is waited for.
@@ -26,48 +28,56 @@ pub fn folder_name<'a, E: Env>(env: &E, i: usize, space: &'a mut [u8]) -> Option
     }
 }
 
-pub fn read_texts<R: Files + AllocGlobal>(rt: &R, folder: &str) -> io::Result<Texts> {
-    Ok(Texts {
-        chart: read_text(rt, folder, "chart.txt", LIMIT)?,
-        queries: read_text(rt, folder, "queries.txt", LIMIT)?,
-        rooms: read_text(rt, folder, "rooms.txt", ROOMS)?,
-        batches: read_text(rt, folder, "batch.txt", LIMIT)?,
-        log: read_text(rt, folder, "log.txt", LIMIT)?,
-    })
-}
-
-// A file of the folder, read and not converted. One that is missing or cannot be read counts as empty.
-fn read_text<R: Files + AllocGlobal>(
-    rt: &R,
-    folder: &str,
-    file: &str,
-    limit: usize,
-) -> io::Result<Vec<u8>> {
-    let alloc = rt.alloc();
-    let path = path(alloc, folder, file)?;
-    match File::open(rt, path.as_str()) {
-        Ok(file) => read_file(alloc, file, limit),
-        Err(_) => Ok(Vec::new(alloc)),
-    }
-}
-
-// Where a read fails no part of the file counts; where memory runs out nothing is known of it.
-fn read_file<R: Read + Drop>(alloc: Global, file: R, limit: usize) -> io::Result<Vec<u8>> {
-    let mut text = Vec::new(alloc);
-    match file.take(limit as u64).read_to_end(&mut text) {
-        Err(e) if e.kind() == ErrorKind::OutOfMemory => Err(e),
-        Err(_) => Ok(Vec::new(alloc)),
-        Ok(_) => Ok(text),
-    }
-}
-
-fn path(alloc: Global, folder: &str, file: &str) -> Result<String, AllocError>
-    ensures { IfOk result (λ p. string_bytes p ≡ path_of folder.now file.now) }
+// Reads the texts into the rooms that are lent, in place of what was there.
+pub fn read_texts<R: Files>(rt: &R, folder: &str, texts: &mut Texts)
+    ensures chart { array_vec_len texts.new.chart ≤ 65536 }
+    ensures queries { array_vec_len texts.new.queries ≤ 65536 }
+    ensures rooms { array_vec_len texts.new.rooms ≤ 4096 }
+    ensures batches { array_vec_len texts.new.batches ≤ 65536 }
+    ensures log { array_vec_len texts.new.log ≤ 65536 }
 {
-    let mut path = String::from_str(alloc, folder)?;
-    if !folder.is_empty() {
-        path.push_str("/")?;
-        path.push_str(file)?;
+    read_text(rt, folder, "chart.txt", LIMIT, &mut texts.chart);
+    read_text(rt, folder, "queries.txt", LIMIT, &mut texts.queries);
+    read_text(rt, folder, "rooms.txt", ROOMS, &mut texts.rooms);
+    read_text(rt, folder, "batch.txt", LIMIT, &mut texts.batches);
+    read_text(rt, folder, "log.txt", LIMIT, &mut texts.log);
+}
+
+// A file of the folder, or its first bytes, read and not converted. One that is missing or cannot be read counts as empty.
+fn read_text<R: Files>(rt: &R, folder: &str, file: &str, limit: usize, text: &mut Text)
+    ensures { array_vec_len text.new ≤ limit }
+{
+    text.clear();
+    let Some(path) = path(folder, file) else {
+        return;
+    };
+    let Ok(mut file) = File::open(rt, path.as_str()) else {
+        return;
+    };
+    read_file(&mut file, limit, text);
+}
+
+// Where a read fails no part of the file counts.
+fn read_file<R: Read>(file: &mut R, limit: usize, text: &mut Text)
+    ensures bound { array_vec_len text.new ≤ limit }
+    ensures known { IfSome (R.remaining file.old) (λ bytes. FrontOrNone (min limit 65536) bytes text.new.items) }
+{
+    match fill(file, limit, text) {
+        Ok(()) => {}
+        Err(_) => text.clear(),
     }
-    Ok(path)
+}
+
+// No path of a file is longer than what is lent here, and one that is opens nothing.
+fn path(folder: &str, file: &str) -> Option<ArrayString<4096>>
+    ensures some { IfSome result (λ p. p.bytes ≡ path_of folder.now file.now) }
+    ensures none { IfNone result (4096 < length (path_of folder.now file.now)) }
+{
+    let mut path = ArrayString::new();
+    if !folder.is_empty() {
+        path.try_push_str(folder).ok()?;
+        path.try_push_str("/").ok()?;
+        path.try_push_str(file).ok()?;
+    }
+    Some(path)
 }

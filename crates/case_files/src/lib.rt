@@ -3,6 +3,7 @@
 
 pub mod folder;
 pub mod packed;
+mod read;
 mod texts;
 
-pub use texts::Texts;
+pub use texts::{Text, Texts};

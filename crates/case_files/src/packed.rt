@@ -1,57 +1,50 @@
 // The texts of packed cases: a header line with their sizes, and then these texts. A read that fails ends the input.
-ghost use Rattle.std.specs.Prelude.{◌≤◌, min, IfOk, IfSome, vec_len};
-ghost use Rattle.std.specs.Io.{StartsWith};
+ghost use Rattle.std.specs.Prelude.{◌≡◌, ◌⊎◌, min, IfOk, IfErr, IfSome, OnOk};
+ghost use Rattle.arrayvec.specs.ArrayVec.{array_vec_len};
 ghost use Rattle.case_files.specs.Packed.{Headed};
 
-use crate::Texts;
+use crate::read::{fill, skip};
+use crate::{Text, Texts};
+use arrayvec::ArrayVec;
 use case_text::LIMIT;
 use case_text::headers::{HEADER, read_header};
 use case_text::stop::Stop;
-use std::alloc::Global;
-use std::io;
-use std::io::{ErrorKind, Read};
+use std::io::Read;
 
-// The texts of the next case; `None` where the input ends before it.
-pub fn read_texts<R: Read>(alloc: Global, input: &mut R) -> Result<Option<Texts>, Stop>
-    ensures { IfOk result (λ case. IfSome case (λ texts. IfSome (R.remaining input.old) (λ bytes. Headed bytes texts))) }
+// The texts of the next case, read into the rooms that are lent, in place of what was there; `None` where the input ends before it.
+pub fn read_texts<'a, R: Read>(
+    input: &mut R,
+    texts: &'a mut Texts,
+) -> Result<Option<&'a Texts>, Stop>
+    ensures headed { IfOk result (λ case. IfSome case (λ texts. IfSome (R.remaining input.old) (λ bytes. Headed bytes texts.now))) }
+    ensures broken { IfErr result (λ stop. (stop ≡ Stop.Header) ⊎ (stop ≡ Stop.Case)) }
 {
-    let line = read_some(alloc, input, HEADER)?;
+    let mut line = ArrayVec::<u8, 41>::new();
+    let _failed = fill(input, HEADER, &mut line);
     if line.is_empty() {
         return Ok(None);
     }
     let sizes = read_header(&line).ok_or(Stop::Header)?;
-    Ok(Some(Texts {
-        chart: read_text(alloc, input, sizes.chart)?,
-        queries: read_text(alloc, input, sizes.queries)?,
-        rooms: read_text(alloc, input, sizes.rooms)?,
-        batches: read_text(alloc, input, sizes.batches)?,
-        log: read_text(alloc, input, sizes.log)?,
-    }))
+    read_text(input, sizes.chart, &mut texts.chart)?;
+    read_text(input, sizes.queries, &mut texts.queries)?;
+    read_text(input, sizes.rooms, &mut texts.rooms)?;
+    read_text(input, sizes.batches, &mut texts.batches)?;
+    read_text(input, sizes.log, &mut texts.log)?;
+    Ok(Some(texts))
 }
 
 // A text of this size, read and not converted: what is past the limit is read and dropped.
-fn read_text<R: Read>(alloc: Global, input: &mut R, size: usize) -> Result<Vec<u8>, Stop>
-    ensures { IfOk result (λ text. min size 65536 ≤ vec_len text) }
+fn read_text<R: Read>(input: &mut R, size: usize, text: &mut Text) -> Result<(), Stop>
+    ensures whole { OnOk result (array_vec_len text.new ≡ min size 65536) }
+    ensures broken { IfErr result (λ stop. stop ≡ Stop.Case) }
 {
     let kept = size.min(LIMIT);
-    let text = read_some(alloc, input, kept)?;
+    let _failed = fill(input, kept, text);
     if text.len() < kept {
         return Err(Stop::Case);
     }
-    let rest = (size - kept) as u64;
-    match io::copy(&mut input.take(rest), &mut io::sink()) {
-        Ok(n) if n == rest => Ok(text),
-        _ => Err(Stop::Case),
+    if !skip(input, size - kept) {
+        return Err(Stop::Case);
     }
-}
-
-// So many bytes, or as many as there are.
-fn read_some<R: Read>(alloc: Global, input: &mut R, size: usize) -> io::Result<Vec<u8>>
-    ensures { IfOk result (λ text. IfSome (R.remaining input.old) (λ bytes. StartsWith bytes text.items)) }
-{
-    let mut text = Vec::new(alloc);
-    match input.take(size as u64).read_to_end(&mut text) {
-        Err(e) if e.kind() == ErrorKind::OutOfMemory => Err(e),
-        _ => Ok(text),
-    }
+    Ok(())
 }

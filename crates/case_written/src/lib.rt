@@ -1,6 +1,8 @@
 // A case's chart written back: its tables, as numbers, are lent to the writer with room for the file and with other rooms, and in part.
 #![tactic(auto)]
 
+ghost use Rattle.std.specs.Prelude.{◌≡◌, ◌-◌, length, take};
+
 use std::io;
 use std::io::Write;
 
@@ -23,7 +25,9 @@ impl<'a> Tables<'a> {
     }
 }
 
-fn without(numbers: &[i64], lacking: usize) -> &[i64] {
+fn without(numbers: &[i64], lacking: usize) -> &[i64]
+    ensures { result.now ≡ take (length numbers.now - lacking) numbers.now }
+{
     &numbers[..numbers.len().saturating_sub(lacking)]
 }
 

@@ -4,13 +4,12 @@ ghost use Rattle.cases.specs.Stop.{HandedOn};
 use case_files::Texts;
 use case_text::LIMIT;
 use case_text::stop::Stop;
-use std::alloc::Global;
 use std::io;
 use std::io::Write;
 
 // Prints the lines of a case.
-pub fn print<W: Write>(out: &mut W, alloc: Global, texts: &Texts) -> io::Result<()> {
-    match answers(out, alloc, texts) {
+pub fn print<W: Write>(out: &mut W, texts: &Texts) -> io::Result<()> {
+    match answers(out, texts) {
         Ok(()) => Ok(()),
         Err(stop) => print_stop(out, stop),
     }
@@ -28,7 +27,7 @@ pub fn print_stop<W: Write>(out: &mut W, stop: Stop) -> io::Result<()>
 }
 
 // A text that is broken ends its case.
-fn answers<W: Write>(out: &mut W, alloc: Global, texts: &Texts) -> Result<(), Stop> {
+fn answers<W: Write>(out: &mut W, texts: &Texts) -> Result<(), Stop> {
     let found = estivolh::check(&texts.chart);
     answer_lines::verdict(out, found)?;
     case_written::lines(out, &texts.chart)?;
@@ -36,7 +35,7 @@ fn answers<W: Write>(out: &mut W, alloc: Global, texts: &Texts) -> Result<(), St
     if found.is_ok() {
         case_queries::loads(out, &texts.chart, &texts.queries)?;
     }
-    case_batches::batches(out, alloc, &texts.chart, &texts.batches)?;
+    case_batches::batches(out, &texts.chart, &texts.batches)?;
     run(out, &texts.chart, &texts.log)
 }
 

@@ -5,17 +5,16 @@ mod case;
 mod folder;
 mod packed;
 
+use case_files::Texts;
 use std::io;
 use std::io::Write;
 use std::rt::{Env, Files};
 
-// The case folders among the arguments; with no argument the packed cases.
-pub fn answer<R: Files + Env + Input + AllocGlobal, W: Write>(
-    rt: &R,
-    out: &mut W,
-) -> io::Result<()> {
-    if !folder::cases(rt, out)? {
-        packed::cases(rt, out)?;
+// The case folders among the arguments; with no argument the packed cases. Each case is read into the same rooms.
+pub fn answer<R: Files + Env + Input, W: Write>(rt: &R, out: &mut W) -> io::Result<()> {
+    let mut room = Texts::default();
+    if !folder::cases(rt, out, &mut room)? {
+        packed::cases(rt, out, &mut room)?;
     }
     Ok(())
 }
