@@ -1,7 +1,7 @@
 // The lines of a batch text (crate `case_batches`): two or three numbers, or an entry slice, with a space between any two.
 #![tactic(auto)]
 
-ghost use Rattle.std.specs.Prelude.{◌≡◌};
+ghost use Rattle.std.specs.Prelude.{◌≡◌, ◌≤◌, length, IfSome};
 ghost use Rattle.batch_text.specs.Batch.{two_of, opening_of};
 
 use arrayvec::ArrayVec;
@@ -39,14 +39,19 @@ pub fn read_opening(line: &[u8]) -> Option<Opening>
     })
 }
 
-// The numbers of an entry slice; `None` where the line is broken, or has more of them than the answer holds. An empty line has none.
-pub fn read_entries<const N: usize>(line: &[u8]) -> Option<ArrayVec<i64, N>> {
-    let mut entries = ArrayVec::new();
-    if line.is_empty() {
-        return Some(entries);
+// The numbers of an entry slice, read into the room that is lent, in place of what was there; `None` where the line is broken, or has more of them
+// than there is room for. An empty line has none.
+pub fn read_entries<'a, const N: usize>(
+    line: &[u8],
+    room: &'a mut ArrayVec<i64, N>,
+) -> Option<&'a [i64]>
+    ensures { IfSome result (λ entries. length entries.now ≤ N) }
+{
+    room.clear();
+    if !line.is_empty() {
+        for part in line.split(|&b| b == b' ') {
+            room.try_push(decimal(part)?).ok()?;
+        }
     }
-    for part in line.split(|&b| b == b' ') {
-        entries.try_push(decimal(part)?).ok()?;
-    }
-    Some(entries)
+    Some(room.as_slice())
 }

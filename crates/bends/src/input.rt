@@ -21,7 +21,7 @@ const BROKEN: usize = 1;
 pub type Text = ArrayVec<u8, 65536>;
 
 // The first bytes of a log, and how many it has.
-#[derive(Drop)]
+#[derive(Default, Drop)]
 pub struct Log {
     pub kept: Text,
     pub size: usize,
@@ -29,49 +29,48 @@ pub struct Log {
 
 // Reads chart.txt, or as much of it as is kept. A file that is missing or cannot be read counts as empty. The test program reads its files so too
 // (case_files); a crate for both would stand between this program and the library for ten lines.
+// Its room is large, and the program's other rooms are lent: inlined it would be held to the end.
 #[inline(never)]
-pub fn read_chart<R: Files>(rt: &R) -> Text
-    ensures { array_vec_len result ≤ LIMIT }
+pub fn read_chart<R: Files>(rt: &R, chart: &mut Text)
+    ensures { array_vec_len chart.new ≤ LIMIT }
 {
+    chart.clear();
     let Ok(mut file) = File::open(rt, "chart.txt") else {
-        return Text::new();
+        return;
     };
-    read_file(&mut file)
+    read_file(&mut file, chart);
 }
 
 // Where a read fails no part of the file counts.
-fn read_file<R: Read>(file: &mut R) -> Text
-    ensures bound { array_vec_len result ≤ LIMIT }
-    ensures known { IfSome (R.remaining file.old) (λ bytes. Front LIMIT bytes result.items) }
+fn read_file<R: Read>(file: &mut R, text: &mut Text)
+    ensures bound { array_vec_len text.new ≤ LIMIT }
+    ensures known { IfSome (R.remaining file.old) (λ bytes. Front LIMIT bytes text.new.items) }
 {
-    let mut text = Text::new();
-    match front(file, &mut text) {
-        Ok(()) => text,
-        Err(_) => Text::new(),
+    let mut room = [0u8; LIMIT];
+    match front(file, &mut room, text) {
+        Ok(()) => {}
+        Err(_) => text.clear(),
     }
 }
 
 // Reads the log. Where a read fails, no part of it counts.
 #[inline(never)]
-pub fn read_log<R: Read>(input: &mut R) -> Log
-    ensures handed { Handed LIMIT (array_vec_len result.kept) result.size }
-    ensures bound { array_vec_len result.kept ≤ LIMIT }
-    ensures known { IfSome (R.remaining input.old) (λ bytes. Known LIMIT bytes result.kept.items result.size) }
+pub fn read_log<R: Read>(input: &mut R, log: &mut Log)
+    ensures handed { Handed LIMIT (array_vec_len log.new.kept) log.new.size }
+    ensures bound { array_vec_len log.new.kept ≤ LIMIT }
+    ensures known { IfSome (R.remaining input.old) (λ bytes. Known LIMIT bytes log.new.kept.items log.new.size) }
 {
-    let mut kept = Text::new();
-    match fill(input, &mut kept) {
-        Ok(size) => Log { kept, size },
-        Err(_) => broken_log(),
+    match fill(input, &mut log.kept) {
+        Ok(size) => log.size = size,
+        Err(_) => broken_log(log),
     }
 }
 
-fn broken_log() -> Log
-    ensures { (result.kept.items ≡ []) × (result.size ≡ broken_size) }
+fn broken_log(log: &mut Log)
+    ensures { (log.new.kept.items ≡ []) × (log.new.size ≡ broken_size) }
 {
-    Log {
-        kept: Text::new(),
-        size: BROKEN,
-    }
+    log.kept.clear();
+    log.size = BROKEN;
 }
 
 // Keeps the first bytes of the input, reads the rest and drops it: how many there are. The rest may be endless, and takes no memory.
@@ -81,23 +80,23 @@ fn fill<R: Read>(input: &mut R, kept: &mut Text) -> io::Result<usize>
     ensures bound { array_vec_len kept.new ≤ LIMIT }
     ensures known { IfOk result (λ size. IfSome (R.remaining input.old) (λ bytes. Whole LIMIT bytes kept.new.items size)) }
 {
-    front(input, kept)?;
+    let mut room = [0u8; LIMIT];
+    front(input, &mut room, kept)?;
     let n = kept.len();
     if n < LIMIT {
         return Ok(n);
     }
-    let rest = count(input)?;
+    let rest = count(input, &mut room)?;
     Ok(n.saturating_add(rest))
 }
 
 // Reads until the input ends, or as much as is kept. A read that fails, or that a signal interrupts, ends it.
-fn front<R: Read>(input: &mut R, text: &mut Text) -> io::Result<()>
+fn front<R: Read>(input: &mut R, room: &mut [u8; LIMIT], text: &mut Text) -> io::Result<()>
     ensures bound { array_vec_len text.new ≤ LIMIT }
     ensures bytes { Consumes (R.remaining input.old) (R.remaining input.new) text.new.items }
     ensures whole { OnOk result (array_vec_len text.new < LIMIT → IsAtEnd (R.remaining input.new)) }
 {
     text.clear();
-    let mut room = [0u8; LIMIT];
     while text.len() < LIMIT {
         let space = LIMIT - text.len();
         let n = input.read(&mut room[..space])?;
@@ -111,13 +110,12 @@ fn front<R: Read>(input: &mut R, text: &mut Text) -> io::Result<()>
 
 // Reads the input to its end: how many bytes came. A loop has to end, and nothing says that the input does: it stops at a number that no log
 // reaches.
-fn count<R: Read>(input: &mut R) -> io::Result<usize>
+fn count<R: Read>(input: &mut R, room: &mut [u8; LIMIT]) -> io::Result<usize>
     ensures { IfOk result (λ n. IfSome (R.remaining input.old) (λ bytes. n ≡ u64_saturate (length bytes))) }
 {
-    let mut room = [0u8; LIMIT];
     let mut size = 0usize;
     while size < usize::MAX {
-        let n = input.read(&mut room)?;
+        let n = input.read(room)?;
         if n == 0 {
             return Ok(size);
         }

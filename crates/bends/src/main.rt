@@ -3,12 +3,15 @@
 
 mod input;
 
+use input::{Log, Text};
 use std::io;
 use std::io::Write;
 
 fn main(rt: HostRuntime) -> io::Result<()> {
-    let chart = input::read_chart(&rt);
-    let log = input::read_log(&mut rt.stdin());
+    let mut chart = Text::new();
+    let mut log = Log::default();
+    input::read_chart(&rt, &mut chart);
+    input::read_log(&mut rt.stdin(), &mut log);
     // the most that is printed is known, and `program` lays it into lent room
     let mut out = [0u8; 65536];
     let n = program::print(&chart, log.size, &log.kept, &mut out);

@@ -68,10 +68,11 @@ fn batch<W: Write>(
     room: u64,
 ) -> Result<Book, Stop> {
     let line = line.ok_or(Stop::Batch)?;
-    let entries: ArrayVec<i64, NUMBERS> = read_entries(line).ok_or(Stop::Batch)?;
+    let mut numbers = ArrayVec::<i64, NUMBERS>::new();
+    let entries = read_entries(line, &mut numbers).ok_or(Stop::Batch)?;
     let mut answers = [0u64; ENTRIES];
     let lent = ENTRIES.min(room as usize);
-    match estivolh::batch(book, chart, &entries, &mut answers[..lent]) {
+    match estivolh::batch(book, chart, entries, &mut answers[..lent]) {
         Ok(after) => {
             answer_lines::answers(out, &answers, entries.len() / 5)?;
             answer_lines::book(out, after)?;

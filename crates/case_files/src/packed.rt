@@ -1,5 +1,6 @@
 // The texts of packed cases: a header line with their sizes, and then these texts. A read that fails ends the input.
-ghost use Rattle.std.specs.Prelude.{◌≡◌, ◌⊎◌, min, IfOk, IfErr, IfSome, OnOk};
+ghost use Rattle.std.specs.Prelude.{◌≡◌, ◌⊎◌, ℕ, List, length, min, IfOk, IfErr, IfSome, OnOk};
+ghost use Rattle.std.specs.Io.KnownBytes.{Consumes};
 ghost use Rattle.arrayvec.specs.ArrayVec.{array_vec_len};
 ghost use Rattle.case_files.specs.Packed.{Headed};
 
@@ -36,6 +37,7 @@ pub fn read_texts<'a, R: Read>(
 // A text of this size, read and not converted: what is past the limit is read and dropped.
 fn read_text<R: Read>(input: &mut R, size: usize, text: &mut Text) -> Result<(), Stop>
     ensures whole { OnOk result (array_vec_len text.new ≡ min size 65536) }
+    ensures taken { OnOk result ((bytes : List ℕ) × (length bytes ≡ size) × Consumes (R.remaining input.old) (R.remaining input.new) bytes) }
     ensures broken { IfErr result (λ stop. stop ≡ Stop.Case) }
 {
     let kept = size.min(LIMIT);

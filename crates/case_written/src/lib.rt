@@ -31,7 +31,9 @@ fn without(numbers: &[i64], lacking: usize) -> &[i64]
     &numbers[..numbers.len().saturating_sub(lacking)]
 }
 
-// The lines of a chart; one that 3, 4 or 5 refuses has no tables, and no lines.
+// The lines of a chart; one that 3, 4 or 5 refuses has no tables, and no lines. The tables are large: inlined they would be held while the rest of a
+// case is answered.
+#[inline(never)]
 pub fn lines<W: Write>(out: &mut W, chart: &[u8]) -> io::Result<()> {
     let Ok(counts) = reading::read_head(chart) else {
         return Ok(());

@@ -7,6 +7,9 @@ use case_text::stop::Stop;
 use std::io;
 use std::io::Write;
 
+// 01's program prints no more of any log.
+const PRINTED: usize = 9216;
+
 // Prints the lines of a case.
 pub fn print<W: Write>(out: &mut W, texts: &Texts) -> io::Result<()> {
     match answers(out, texts) {
@@ -48,7 +51,7 @@ fn run<W: Write>(out: &mut W, chart: &[u8], log: &[u8]) -> Result<(), Stop> {
         return Err(Stop::Log);
     }
     // the most that is printed is known, and `program` lays it into lent room
-    let mut text = [0u8; LIMIT];
+    let mut text = [0u8; PRINTED];
     let n = program::print(chart, log.len(), log, &mut text);
     out.write_all(&text[..n])?;
     Ok(())
