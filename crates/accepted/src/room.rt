@@ -28,8 +28,6 @@ impl Room {
     }
 
     // The body of a chart whose head has these counts, read and checked; or the refusal 3, 5 or 6 to 11.
-    // Reading takes rooms of its own: inlined they would be held while the chart is worked on.
-    #[inline(never)]
     pub fn load<'a>(&'a mut self, text: &[u8], counts: Counts) -> Result<AcceptedChart<'a>, Refusal>
         ensures { loaded_says result ≡ load_of counts.vertices counts.half_edges counts.faces text.now }
     {

@@ -103,6 +103,8 @@ fn work_all(
 }
 
 // The same from the chart alone: what every entry needs of it is worked out once.
+// Inlined, its rooms would stand beside those that reading the chart takes before it: so a batch takes less stack.
+#[inline(never)]
 pub fn work(
     accepted: &AcceptedChart,
     book: CheckedBook,

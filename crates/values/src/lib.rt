@@ -211,6 +211,8 @@ pub fn located_value(
 }
 
 // On checked tables: 12, 13, 14, then the value.
+// Inlined, its rooms would stand beside those that reading the chart takes before it: so a call takes less stack.
+#[inline(never)]
 #[tactic(auto, unfolding(crate::specs::Value::value_on))]
 pub fn value_on(
     accepted: &AcceptedChart,
