@@ -4,7 +4,7 @@ ghost use Rattle.arrayvec.specs.ArrayVec.{array_vec_len};
 ghost use Rattle.case_files.specs.Path.{path_of};
 ghost use Rattle.case_files.specs.Files.{FrontOrNone};
 
-use crate::read::fill;
+use crate::read::{ROOM, fill};
 use crate::{Text, Texts};
 use arrayvec::ArrayString;
 use case_text::LIMIT;
@@ -62,7 +62,8 @@ fn read_file<R: Read>(file: &mut R, limit: usize, text: &mut Text)
     ensures bound { array_vec_len text.new ≤ limit }
     ensures known { IfSome (R.remaining file.old) (λ bytes. FrontOrNone (min limit 65536) bytes text.new.items) }
 {
-    match fill(file, limit, text) {
+    let mut room = [0u8; ROOM];
+    match fill(file, &mut room, limit, text) {
         Ok(()) => {}
         Err(_) => text.clear(),
     }

@@ -4,7 +4,7 @@ ghost use Rattle.std.specs.Io.KnownBytes.{Consumes};
 ghost use Rattle.arrayvec.specs.ArrayVec.{array_vec_len};
 ghost use Rattle.case_files.specs.Packed.{Headed};
 
-use crate::read::{fill, skip};
+use crate::read::{ROOM, fill, skip};
 use crate::{Text, Texts};
 use arrayvec::ArrayVec;
 use case_text::LIMIT;
@@ -21,31 +21,37 @@ pub fn read_texts<'a, R: Read>(
     ensures broken { IfErr result (λ stop. (stop ≡ Stop.Header) ⊎ (stop ≡ Stop.Case)) }
 {
     let mut line = ArrayVec::<u8, 41>::new();
-    let _failed = fill(input, HEADER, &mut line);
+    let mut room = [0u8; ROOM];
+    let _failed = fill(input, &mut room, HEADER, &mut line);
     if line.is_empty() {
         return Ok(None);
     }
     let sizes = read_header(&line).ok_or(Stop::Header)?;
-    read_text(input, sizes.chart, &mut texts.chart)?;
-    read_text(input, sizes.queries, &mut texts.queries)?;
-    read_text(input, sizes.rooms, &mut texts.rooms)?;
-    read_text(input, sizes.batches, &mut texts.batches)?;
-    read_text(input, sizes.log, &mut texts.log)?;
+    read_text(input, &mut room, sizes.chart, &mut texts.chart)?;
+    read_text(input, &mut room, sizes.queries, &mut texts.queries)?;
+    read_text(input, &mut room, sizes.rooms, &mut texts.rooms)?;
+    read_text(input, &mut room, sizes.batches, &mut texts.batches)?;
+    read_text(input, &mut room, sizes.log, &mut texts.log)?;
     Ok(Some(texts))
 }
 
 // A text of this size, read and not converted: what is past the limit is read and dropped.
-fn read_text<R: Read>(input: &mut R, size: usize, text: &mut Text) -> Result<(), Stop>
+fn read_text<R: Read>(
+    input: &mut R,
+    room: &mut [u8; ROOM],
+    size: usize,
+    text: &mut Text,
+) -> Result<(), Stop>
     ensures whole { OnOk result (array_vec_len text.new ≡ min size 65536) }
     ensures taken { OnOk result ((bytes : List ℕ) × (length bytes ≡ size) × Consumes (R.remaining input.old) (R.remaining input.new) bytes) }
     ensures broken { IfErr result (λ stop. stop ≡ Stop.Case) }
 {
     let kept = size.min(LIMIT);
-    let _failed = fill(input, kept, text);
+    let _failed = fill(input, room, kept, text);
     if text.len() < kept {
         return Err(Stop::Case);
     }
-    if !skip(input, size - kept) {
+    if !skip(input, room, size - kept) {
         return Err(Stop::Case);
     }
     Ok(())

@@ -8,11 +8,12 @@ use std::io;
 use std::io::Read;
 
 // So many bytes are asked for at once.
-const ROOM: usize = 8192;
+pub(crate) const ROOM: usize = 8192;
 
 // Reads until the input ends, or the text has so many bytes or is full. What came before a failing read is there.
 pub(crate) fn fill<R: Read, const N: usize>(
     input: &mut R,
+    room: &mut [u8; ROOM],
     limit: usize,
     text: &mut ArrayVec<u8, N>,
 ) -> io::Result<()>
@@ -22,7 +23,6 @@ pub(crate) fn fill<R: Read, const N: usize>(
 {
     text.clear();
     let most = limit.min(N);
-    let mut room = [0u8; ROOM];
     while text.len() < most {
         let space = room.len().min(most - text.len());
         let n = input.read(&mut room[..space])?;
@@ -35,11 +35,10 @@ pub(crate) fn fill<R: Read, const N: usize>(
 }
 
 // Reads so many bytes and drops them. Whether they were there.
-pub(crate) fn skip<R: Read>(input: &mut R, size: usize) -> bool
+pub(crate) fn skip<R: Read>(input: &mut R, room: &mut [u8; ROOM], size: usize) -> bool
     ensures { IsTrue result → (bytes : List ℕ) × (length bytes ≡ size) × Consumes (R.remaining input.old) (R.remaining input.new) bytes }
 {
     let mut left = size;
-    let mut room = [0u8; ROOM];
     while left > 0 {
         let space = room.len().min(left);
         match input.read(&mut room[..space]) {

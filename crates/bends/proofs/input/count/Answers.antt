@@ -1,6 +1,5 @@
 -- What a read gave is counted on.
 use Rattle.std.proofs.Common.{◌≡◌, ◌+◌, ℕ, List, ◌++◌, length, take, arith, length-append}
-use Rattle.std.specs.Io.Iter.{u64_saturate}
 use Rattle.std.proofs.KnownBytes.{Consumes-trans}
 use Rattle.bends.proofs.input.count.Goals as goal
 

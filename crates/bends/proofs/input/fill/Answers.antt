@@ -1,5 +1,5 @@
 -- What is handed on is the whole log, or its first bytes with all of them counted.
-use Rattle.std.proofs.Common.{◌≡◌, ◌+◌, ◌<◌, ◌≤◌, length, arith}
+use Rattle.std.proofs.Common.{◌≡◌, ◌+◌, ◌<◌, length, arith}
 use Rattle.std.specs.Io.Iter.{u64_saturate}
 use Rattle.bends.proofs.Taken.{all-read, all-counted}
 use Rattle.bends.proofs.input.fill.Goals as goal

@@ -1,4 +1,4 @@
-use Rattle.std.proofs.Common.{IfSome, inl}
+use Rattle.std.proofs.Common.{inl}
 use Rattle.bends.proofs.Taken.{first-read, mapped}
 use Rattle.bends.proofs.input.read_file.Goals as goal
 

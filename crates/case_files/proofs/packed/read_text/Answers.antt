@@ -1,5 +1,5 @@
 -- What is kept of a text and what is passed over are all of its bytes.
-use Rattle.std.proofs.Common.{rules, ◌≡◌, ◌+◌, ◌-◌, ℕ, List, ◌++◌, length, arith, length-append, IsTrue}
+use Rattle.std.proofs.Common.{rules, ◌≡◌, ◌+◌, ◌++◌, length, arith, length-append, IsTrue}
 use Rattle.std.proofs.KnownBytes.{Consumes-trans}
 use Rattle.case_files.proofs.packed.read_text.Goals as goal
 

@@ -4,11 +4,11 @@ use Rattle.std.specs.Io.KnownBytes.{Consumes}
 use Rattle.arrayvec.specs.ArrayVec.{array_vec_len}
 use Rattle.case_files.proofs.read.fill.Given as goal
 
-abbrev pub invariant-loop-room : goal.invariant-loop-room
-invariant-loop-room g l = record {
+abbrev pub invariant-loop-text : goal.invariant-loop-text
+invariant-loop-text g l = record {
   within : array_vec_len l.text ≤ l.most;
   read : Consumes (g.R.Read.remaining l.fn.input) (g.R.Read.remaining l.input) l.text.items;
 }
 
-abbrev pub decreases-loop-room : goal.decreases-loop-room
-decreases-loop-room g l = l.most - array_vec_len l.text
+abbrev pub decreases-loop-text : goal.decreases-loop-text
+decreases-loop-text g l = l.most - array_vec_len l.text
