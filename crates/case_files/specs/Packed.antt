@@ -18,6 +18,13 @@ pub record Whole (s : Sizes) (t : Texts) : Type 0 where
   pub batches : kept s.batches ≤ array_vec_len t.batches
   pub log : kept s.log ≤ array_vec_len t.log
 
+-- There was a header, and each text is as long as it says: of an input whose bytes no clause knows, as of any.
+pub record Announced (t : Texts) : Type 0 where
+  pub line : List ℕ
+  pub sizes : Sizes
+  pub header : header_of line ≡ Some sizes
+  pub whole : Whole sizes t
+
 -- The input began with a header, and each text is as long as the header says.
 pub record Headed (bytes : List ℕ) (t : Texts) : Type 0 where
   pub line : List ℕ

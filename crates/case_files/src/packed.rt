@@ -2,7 +2,7 @@
 ghost use Rattle.std.specs.Prelude.{◌≡◌, ◌⊎◌, ℕ, List, length, min, IfOk, IfErr, IfSome, OnOk};
 ghost use Rattle.std.specs.Io.KnownBytes.{Consumes};
 ghost use Rattle.arrayvec.specs.ArrayVec.{array_vec_len};
-ghost use Rattle.case_files.specs.Packed.{Headed};
+ghost use Rattle.case_files.specs.Packed.{Announced, Headed};
 
 use crate::read::{ROOM, fill, skip};
 use crate::{Text, Texts};
@@ -17,6 +17,7 @@ pub fn read_texts<'a, R: Read>(
     input: &mut R,
     texts: &'a mut Texts,
 ) -> Result<Option<&'a Texts>, Stop>
+    ensures announced { IfOk result (λ case. IfSome case (λ texts. Announced texts.now)) }
     ensures headed { IfOk result (λ case. IfSome case (λ texts. IfSome (R.remaining input.old) (λ bytes. Headed bytes texts.now))) }
     ensures broken { IfErr result (λ stop. (stop ≡ Stop.Header) ⊎ (stop ≡ Stop.Case)) }
 {
