@@ -1,7 +1,7 @@
 // The lines of a batch text (crate `case_batches`): two or three numbers, or an entry slice, with a space between any two.
 #![tactic(auto)]
 
-ghost use Rattle.std.specs.Prelude.{◌≡◌, ◌≤◌, length, IfSome};
+ghost use Rattle.std.specs.Prelude.{◌≡◌, ◌≤◌, [], length, IsSome, IfSome};
 ghost use Rattle.batch_text.specs.Batch.{two_of, opening_of};
 
 use arrayvec::ArrayVec;
@@ -54,4 +54,46 @@ pub fn read_entries<'a, const N: usize>(
         }
     }
     Some(room.as_slice())
+}
+
+// The same into a lent slice: its length need not be known before the program runs, so that a line of any length fits one that is long enough.
+pub fn read_entries_in<'a>(line: &[u8], room: &'a mut [i64]) -> Option<&'a [i64]>
+    ensures empty { line.now ≡ [] → IsSome result × IfSome result (λ entries. entries.now ≡ []) }
+    ensures bound { IfSome result (λ entries. length entries.now ≤ length room.old) }
+{
+    let mut count = 0;
+    if !line.is_empty() {
+        for part in line.split(|&b| b == b' ') {
+            *room.get_mut(count)? = decimal(part)?;
+            count += 1;
+        }
+    }
+    Some(&room[..count])
+}
+
+#[cfg(test)]
+mod tests {
+    use super::*;
+    use std::test::Fail;
+
+    // More of them than the drivers' room holds.
+    #[test]
+    fn all_numbers_are_read(rt: HostRuntime) -> Result<(), Fail> {
+        let mut line = [b'7'; 5999];
+        for byte in line.iter_mut().skip(1).step_by(2) {
+            *byte = b' ';
+        }
+        let mut room = [0i64; 3000];
+        assert_eq!(rt;
+            read_entries_in(&line, &mut room).ok_or("broken")?,
+            [7i64; 3000].as_slice()
+        );
+        assert!(rt; read_entries_in(&line, &mut [0i64; 2999]).is_none());
+        assert!(rt; read_entries_in(b"1 2 +3", &mut room).is_none());
+        assert_eq!(rt;
+            read_entries_in(b"-4 0", &mut room).ok_or("broken")?,
+            [-4i64, 0].as_slice()
+        );
+        Ok(())
+    }
 }

@@ -1,5 +1,5 @@
 // The files of a case folder.
-ghost use Rattle.std.specs.Prelude.{◌≡◌, ◌≤◌, ◌<◌, length, min, IfSome, IfNone};
+ghost use Rattle.std.specs.Prelude.{◌≡◌, ◌≤◌, ◌<◌, length, min, IsOk, IfSome, IfNone};
 ghost use Rattle.arrayvec.specs.ArrayVec.{array_vec_len};
 ghost use Rattle.case_files.specs.Path.{path_of};
 ghost use Rattle.case_files.specs.Files.{FrontOrNone};
@@ -10,6 +10,7 @@ use arrayvec::ArrayString;
 use case_text::LIMIT;
 use std::env::FillError;
 use std::fs::File;
+use std::io;
 use std::io::Read;
 use std::rt::{Env, Files};
 
@@ -29,7 +30,7 @@ pub fn folder_name<'a, E: Env>(env: &E, i: usize, space: &'a mut [u8]) -> Option
 }
 
 // Reads the texts into the rooms that are lent, in place of what was there.
-pub fn read_texts<R: Files>(rt: &R, folder: &str, texts: &mut Texts)
+pub fn read_case<R: Files>(rt: &R, folder: &str, texts: &mut Texts)
     ensures chart { array_vec_len texts.new.chart ≤ 65536 }
     ensures queries { array_vec_len texts.new.queries ≤ 65536 }
     ensures rooms { array_vec_len texts.new.rooms ≤ 4096 }
@@ -41,6 +42,19 @@ pub fn read_texts<R: Files>(rt: &R, folder: &str, texts: &mut Texts)
     read_text(rt, folder, "rooms.txt", ROOMS, &mut texts.rooms);
     read_text(rt, folder, "batch.txt", LIMIT, &mut texts.batches);
     read_text(rt, folder, "log.txt", LIMIT, &mut texts.log);
+}
+
+// The texts, of each as much as there is room for, of rooms.txt too. Nothing of it can fail.
+pub fn read_texts<R: Files>(rt: &R, folder: &str) -> io::Result<Texts>
+    ensures { IsOk result }
+{
+    let mut texts = Texts::default();
+    read_text(rt, folder, "chart.txt", LIMIT, &mut texts.chart);
+    read_text(rt, folder, "queries.txt", LIMIT, &mut texts.queries);
+    read_text(rt, folder, "rooms.txt", LIMIT, &mut texts.rooms);
+    read_text(rt, folder, "batch.txt", LIMIT, &mut texts.batches);
+    read_text(rt, folder, "log.txt", LIMIT, &mut texts.log);
+    Ok(texts)
 }
 
 // A file of the folder, or its first bytes, read and not converted. One that is missing or cannot be read counts as empty.
@@ -81,4 +95,31 @@ fn path(folder: &str, file: &str) -> Option<ArrayString<4096>>
         path.try_push_str(file).ok()?;
     }
     Some(path)
+}
+
+#[cfg(test)]
+mod tests {
+    use super::*;
+    use std::test::Fail;
+    use std::{env, fs, process};
+
+    // More of rooms.txt than `read_case` reads, and less than there is room for.
+    #[test]
+    fn all_of_rooms_is_read(rt: HostRuntime) -> Result<(), Fail> {
+        let name = format!(in rt.alloc(); "estivolh-case-{}", process::id(rt.process()))?;
+        let folder = env::temp_dir(&rt)?.join(rt.alloc(), name.as_str())?;
+        let file = folder.join(rt.alloc(), "rooms.txt")?;
+        fs::create_dir(&rt, folder.as_path())?;
+        let written = fs::write(&rt, file.as_path(), [b'7'; 5000]);
+        let texts = read_texts(&rt, folder.as_str());
+        let mut case = Texts::default();
+        read_case(&rt, folder.as_str(), &mut case);
+        fs::remove_dir_all(&rt, folder.as_path())?;
+        written?;
+        let texts = texts?;
+        assert_eq!(rt; texts.rooms.as_slice(), [b'7'; 5000].as_slice());
+        assert!(rt; texts.chart.is_empty(), "chart.txt is missing");
+        assert_eq!(rt; case.rooms.len(), ROOMS);
+        Ok(())
+    }
 }

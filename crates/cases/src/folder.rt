@@ -1,13 +1,13 @@
 // Case folders, by their names among the arguments.
 use crate::case;
 use case_files::Texts;
-use case_files::folder::{folder_name, read_texts};
+use case_files::folder::{folder_name, read_case};
 use std::io;
 use std::io::Write;
 use std::rt::{Env, Files};
 
 // Whether there are any: the first is argument 1. A case's answers are handed out before the next is read: its files may be what they are written
-// to.
+// to. A flush that fails ends nothing: the next write says so, or the caller's own flush.
 pub fn cases<R: Files + Env, W: Write>(rt: &R, out: &mut W, texts: &mut Texts) -> io::Result<bool> {
     // `Env::arg` writes into lent room
     let mut space = [0u8; 4096];
@@ -15,9 +15,9 @@ pub fn cases<R: Files + Env, W: Write>(rt: &R, out: &mut W, texts: &mut Texts) -
         let Some(folder) = folder_name(rt, i, &mut space) else {
             return Ok(i > 1);
         };
-        read_texts(rt, folder, texts);
+        read_case(rt, folder, texts);
         case::print(out, texts)?;
-        out.flush()?;
+        let _flushed = out.flush();
     }
     Ok(true)
 }

@@ -4,6 +4,8 @@
 mod case;
 mod folder;
 mod packed;
+#[cfg(test)]
+mod tests;
 
 use case_files::Texts;
 use std::io;

@@ -1,0 +1,120 @@
+// `answer` on a runtime of the tests' own, and into a writer that takes all and cannot hand it out.
+use super::*;
+use std::env::FillError;
+use std::fs::{File, Metadata, OpenOptions};
+use std::io::{BufRead, ErrorKind, Lines};
+use std::test::Fail;
+
+// No argument and no file, and packed cases on standard input.
+struct Packed {
+    cases: &'static [u8],
+}
+
+fn unsupported() -> io::Error {
+    io::Error::from(ErrorKind::Unsupported)
+}
+
+impl Env for Packed {
+    fn arg(&self, _i: usize, _buf: &mut [u8]) -> Result<usize, FillError> {
+        Err(FillError::NotPresent)
+    }
+
+    fn var(&self, _name: &str, _buf: &mut [u8]) -> Result<usize, FillError> {
+        Err(FillError::NotPresent)
+    }
+
+    fn var_at(&self, _i: usize, _buf: &mut [u8]) -> Result<usize, FillError> {
+        Err(FillError::NotPresent)
+    }
+}
+
+impl Files for Packed {
+    type File = File;
+
+    type Dir = &'static [u8];
+
+    fn open_file(&self, _how: &OpenOptions, _path: &str) -> io::Result<File> {
+        Err(unsupported())
+    }
+
+    fn open_dir(&self, _path: &str) -> io::Result<&'static [u8]> {
+        Err(unsupported())
+    }
+
+    fn metadata(&self, _path: &str) -> io::Result<Metadata> {
+        Err(unsupported())
+    }
+
+    fn symlink_metadata(&self, _path: &str) -> io::Result<Metadata> {
+        Err(unsupported())
+    }
+
+    fn copy(&self, _from: &str, _to: &str) -> io::Result<u64> {
+        Err(unsupported())
+    }
+
+    fn rename(&self, _from: &str, _to: &str) -> io::Result<()> {
+        Err(unsupported())
+    }
+
+    fn remove_file(&self, _path: &str) -> io::Result<()> {
+        Err(unsupported())
+    }
+
+    fn create_dir(&self, _path: &str) -> io::Result<()> {
+        Err(unsupported())
+    }
+
+    fn remove_dir(&self, _path: &str) -> io::Result<()> {
+        Err(unsupported())
+    }
+
+    fn remove_dir_all<B: Allocator>(&self, _alloc: B, _path: &str) -> io::Result<()> {
+        Err(unsupported())
+    }
+}
+
+impl Input for Packed {
+    type Reader = &'static [u8];
+
+    fn read_line<A: Allocator + Clone>(&self, _buf: &mut String<A>) -> io::Result<usize> {
+        Ok(0)
+    }
+
+    fn lines<A: Allocator>(&self, alloc: A) -> Lines<&'static [u8], A> {
+        self.cases.lines(alloc)
+    }
+
+    fn reader(&self) -> &'static [u8] {
+        self.cases
+    }
+}
+
+// Counts what it takes.
+struct Unflushed(usize);
+
+impl Write for Unflushed {
+    fn write(&mut self, buf: &[u8]) -> io::Result<usize> {
+        self.0 = self.0.saturating_add(buf.len());
+        Ok(buf.len())
+    }
+
+    fn flush(&mut self) -> io::Result<()> {
+        Err(unsupported())
+    }
+}
+
+// Two cases of empty texts are answered as one is, each.
+#[test]
+fn a_failed_flush_ends_nothing(rt: HostRuntime) -> Result<(), Fail> {
+    let mut one = Unflushed(0);
+    let case = b"       0       0       0       0       0\n";
+    answer(&Packed { cases: case }, &mut one)?;
+    assert!(rt; 0 < one.0);
+    let mut two = Unflushed(0);
+    let cases =
+        b"       0       0       0       0       0\n       0       0       0       0       0\n";
+    answer(&Packed { cases }, &mut two)?;
+    assert_eq!(rt; two.0, one.0.saturating_mul(2));
+    Ok(())
+}
