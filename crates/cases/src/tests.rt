@@ -1,5 +1,6 @@
 // `answer` on a runtime of the tests' own, and into a writer that takes all and cannot hand it out.
 use super::*;
+use std::alloc::Allocator;
 use std::env::FillError;
 use std::fs::{File, Metadata, OpenOptions};
 use std::io::{BufRead, ErrorKind, Lines};
