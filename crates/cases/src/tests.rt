@@ -7,6 +7,7 @@ use std::io::{BufRead, ErrorKind, Lines};
 use std::test::Fail;
 
 // No argument and no file, and packed cases on standard input.
+#[derive(Drop)]
 struct Packed {
     cases: &'static [u8],
 }
@@ -92,6 +93,7 @@ impl Input for Packed {
 }
 
 // Counts what it takes.
+#[derive(Drop)]
 struct Unflushed(usize);
 
 impl Write for Unflushed {
