@@ -6,19 +6,27 @@ use std::fs::{File, Metadata, OpenOptions};
 use std::io::{BufRead, ErrorKind, Lines};
 use std::test::Fail;
 
-// No argument and no file, and packed cases on standard input.
+// So many case folders among the arguments, and packed cases on standard input. There is no file.
 #[derive(Drop)]
-struct Packed {
-    cases: &'static [u8],
+struct Given {
+    folders: usize,
+    packed: &'static [u8],
 }
 
 fn unsupported() -> io::Error {
     io::Error::from(ErrorKind::Unsupported)
 }
 
-impl Env for Packed {
-    fn arg(&self, _i: usize, _buf: &mut [u8]) -> Result<usize, FillError> {
-        Err(FillError::NotPresent)
+impl Env for Given {
+    fn arg(&self, i: usize, buf: &mut [u8]) -> Result<usize, FillError> {
+        if self.folders < i {
+            return Err(FillError::NotPresent);
+        }
+        let Some(first) = buf.first_mut() else {
+            return Err(FillError::TooLong);
+        };
+        *first = b'x';
+        Ok(1)
     }
 
     fn var(&self, _name: &str, _buf: &mut [u8]) -> Result<usize, FillError> {
@@ -30,7 +38,7 @@ impl Env for Packed {
     }
 }
 
-impl Files for Packed {
+impl Files for Given {
     type File = File;
 
     type Dir = &'static [u8];
@@ -76,7 +84,7 @@ impl Files for Packed {
     }
 }
 
-impl Input for Packed {
+impl Input for Given {
     type Reader = &'static [u8];
 
     fn read_line<A: Allocator + Clone>(&self, _buf: &mut String<A>) -> io::Result<usize> {
@@ -84,11 +92,11 @@ impl Input for Packed {
     }
 
     fn lines<A: Allocator>(&self, alloc: A) -> Lines<&'static [u8], A> {
-        self.cases.lines(alloc)
+        self.packed.lines(alloc)
     }
 
     fn reader(&self) -> &'static [u8] {
-        self.cases
+        self.packed
     }
 }
 
@@ -107,17 +115,23 @@ impl Write for Unflushed {
     }
 }
 
+// How long the answers are.
+fn answered(folders: usize, packed: &'static [u8]) -> io::Result<usize> {
+    let mut out = Unflushed(0);
+    answer(&Given { folders, packed }, &mut out)?;
+    Ok(out.0)
+}
+
 // Two cases of empty texts are answered as one is, each.
 #[test]
 fn a_failed_flush_ends_nothing(rt: HostRuntime) -> Result<(), Fail> {
-    let mut one = Unflushed(0);
-    let case = b"       0       0       0       0       0\n";
-    answer(&Packed { cases: case }, &mut one)?;
-    assert!(rt; 0 < one.0);
-    let mut two = Unflushed(0);
-    let cases =
+    let one = b"       0       0       0       0       0\n";
+    let two =
         b"       0       0       0       0       0\n       0       0       0       0       0\n";
-    answer(&Packed { cases }, &mut two)?;
-    assert_eq!(rt; two.0, one.0.saturating_mul(2));
+    let case = answered(0, one)?;
+    assert!(rt; 0 < case);
+    assert_eq!(rt; answered(0, two)?, case.saturating_mul(2));
+    assert_eq!(rt; answered(1, b"")?, case);
+    assert_eq!(rt; answered(2, b"")?, case.saturating_mul(2));
     Ok(())
 }
