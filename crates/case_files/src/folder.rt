@@ -14,7 +14,7 @@ use std::io;
 use std::io::Read;
 use std::rt::{Env, Files};
 
-// So many bytes of rooms.txt are read at most: a list of rooms has fewer (`case_rooms`), so that no more is waited for.
+// So many bytes of rooms.txt `read_case` reads at most: a list of rooms has fewer (`case_rooms`), so that no more is waited for.
 const ROOMS: usize = 4096;
 
 // Argument i as a folder's name: none, and so no file's, where it is too long for `space` or is no UTF-8. `None` past the last argument.

@@ -7,7 +7,7 @@ use std::io::Write;
 use std::rt::{Env, Files};
 
 // Whether there are any: the first is argument 1. A case's answers are handed out before the next is read: its files may be what they are written
-// to. A flush that fails ends nothing: the next write says so, or the caller's own flush.
+// to. A flush that fails ends nothing: who must know of it flushes after the call.
 pub fn cases<R: Files + Env, W: Write>(rt: &R, out: &mut W, texts: &mut Texts) -> io::Result<bool> {
     // `Env::arg` writes into lent room
     let mut space = [0u8; 4096];
