@@ -1,8 +1,8 @@
 // The lines of a batch text (crate `case_batches`): two or three numbers, or an entry slice, with a space between any two.
 #![tactic(auto)]
 
-ghost use Rattle.std.specs.Prelude.{◌≡◌, ◌≤◌, [], length, IsSome, IfSome};
-ghost use Rattle.batch_text.specs.Batch.{two_of, opening_of};
+ghost use Rattle.std.specs.Prelude.{◌≡◌, ◌≤◌, length, set, ltb, is_some, option_map, IsSome, IfSome};
+ghost use Rattle.batch_text.specs.Batch.{two_of, opening_of, slice_of, within};
 
 use arrayvec::ArrayVec;
 use case_text::decimal::{decimal, unsigned};
@@ -56,19 +56,35 @@ pub fn read_entries<'a, const N: usize>(
     Some(room.as_slice())
 }
 
-// The same into a lent slice: its length need not be known before the program runs, so that a line of any length fits one that is long enough.
-pub fn read_entries_in<'a>(line: &[u8], room: &'a mut [i64]) -> Option<&'a [i64]>
-    ensures empty { line.now ≡ [] → IsSome result × IfSome result (λ entries. entries.now ≡ []) }
-    ensures bound { IfSome result (λ entries. length entries.now ≤ length room.old) }
+// Puts a number at a place of the room; `None` where there is no such place.
+fn put(room: &mut [i64], at: usize, number: i64) -> Option<()>
+    ensures is { is_some result ≡ ltb at (length room.old) }
+    ensures room { IsSome result → room.new ≡ set room.old at number }
 {
-    let mut count = 0;
-    if !line.is_empty() {
-        for part in line.split(|&b| b == b' ') {
-            *room.get_mut(count)? = decimal(part)?;
-            count += 1;
-        }
+    if room.len() <= at {
+        return None;
     }
-    Some(&room[..count])
+    room[at] = number;
+    Some(())
+}
+
+// The same into a lent slice: its length need not be known before the program runs, so that a line of any length fits one that is long enough.
+// By `split_once`, whose clause has the definition's own `split_of`.
+pub fn read_entries_in<'a>(line: &[u8], room: &'a mut [i64]) -> Option<&'a [i64]>
+    ensures { option_map (λ entries. entries.now) result ≡ within (length room.old) (slice_of line.now) }
+{
+    if line.is_empty() {
+        return Some(&room[..0]);
+    }
+    let mut count = 0;
+    let mut rest = line;
+    while let Some((part, more)) = split_once(rest, b' ') {
+        put(room, count, decimal(part)?)?;
+        count += 1;
+        rest = more;
+    }
+    put(room, count, decimal(rest)?)?;
+    Some(&room[..count + 1])
 }
 
 #[cfg(test)]
@@ -89,11 +105,22 @@ mod tests {
             [7i64; 3000].as_slice()
         );
         assert!(rt; read_entries_in(&line, &mut [0i64; 2999]).is_none());
-        assert!(rt; read_entries_in(b"1 2 +3", &mut room).is_none());
+        Ok(())
+    }
+
+    #[test]
+    fn a_space_parts_two_numbers(rt: HostRuntime) -> Result<(), Fail> {
         assert_eq!(rt;
-            read_entries_in(b"-4 0", &mut room).ok_or("broken")?,
+            read_entries_in(b"-4 0", &mut [7i64; 2]).ok_or("broken")?,
             [-4i64, 0].as_slice()
         );
+        assert_eq!(rt;
+            read_entries_in(b"", &mut [7i64; 2]).ok_or("broken")?.len(),
+            0
+        );
+        for line in [b" 7".as_slice(), b"7 ", b"7  7", b" ", b"1 +3", b"1,3"] {
+            assert!(rt; read_entries_in(line, &mut [7i64; 9]).is_none());
+        }
         Ok(())
     }
 }

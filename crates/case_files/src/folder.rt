@@ -44,7 +44,7 @@ pub fn read_case<R: Files>(rt: &R, folder: &str, texts: &mut Texts)
     read_text(rt, folder, "log.txt", LIMIT, &mut texts.log);
 }
 
-// The texts, of each as much as there is room for, of rooms.txt too. Nothing of it can fail.
+// The texts for a caller to whom rooms.txt is no list of rooms: of each as much as there is room for. The `Result` is what callers take, and no error.
 pub fn read_texts<R: Files>(rt: &R, folder: &str) -> io::Result<Texts>
     ensures { IsOk result }
 {
